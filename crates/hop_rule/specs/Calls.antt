@@ -1,0 +1,134 @@
+-- 01, 'Refusal numbers', and every public call: its refusals in the order in which they are judged, and what it gives where none applies.
+-- A call has a buffer s, which holds the state, and an output out, [] where it writes none. Uses Rule, Stored, Sound and Records.
+use mathlib.Core.Bool.{Bool, true, false, not, _||_}
+use mathlib.Core.List.{List, [], _∷_, _++_}
+use Prim.Native.Nat.{ℕ}
+use lib.Dec.{eqb, ltb, leb}
+use lib.ListN.{length, drop}
+use Rattle.hop_rule.specs.declared.Event.{Event}
+use Rattle.hop_rule.specs.State.{State}
+use Rattle.hop_rule.specs.Words.{if_then_else_}
+use Rattle.hop_rule.specs.Rule as rule
+use Rattle.hop_rule.specs.Stored.{size, stored, nodes, read}
+use Rattle.hop_rule.specs.Sound.{isSoundBytes}
+use Rattle.hop_rule.specs.Records.{eventRecord, statusRecord, written}
+
+-- The public calls with their arguments. Reading an event is `readEvent` of Records.
+pub data Call : Type 0 where
+  make : ℕ → Call
+  check : Call
+  up : ℕ → ℕ → Call
+  down : ℕ → ℕ → Call
+  deliver : ℕ → ℕ → Call
+  pass : Call
+  run : ℕ → Call
+  distance : ℕ → ℕ → Call
+  downstream : ℕ → ℕ → Call
+  queueLength : ℕ → ℕ → Call
+  totalQueued : Call
+  status : ℕ → Call
+  writeEvent : Event → Call
+
+-- A refusal: its number, and whether it applies.
+pub record Refusal : Type 0 where
+  pub number : ℕ
+  pub applies : Bool
+
+-- The number of the first refusal that applies, or 0: done.
+unfoldable pub judge : List Refusal → ℕ
+judge [] = 0
+judge (r ∷ rs) = if r .applies then r .number else judge rs
+
+-- The table of refusal numbers.
+abbrev pub empty : List ℕ → Refusal
+empty s = record { number = 2; applies = eqb (length s) 0 }
+
+abbrev pub badCount : ℕ → Refusal
+badCount n = record { number = 1; applies = eqb n 0 || ltb 40 n }
+
+abbrev pub short : List ℕ → ℕ → Refusal
+short s needed = record { number = 2; applies = ltb (length s) needed }
+
+abbrev pub notSound : List ℕ → Refusal
+notSound s = record { number = 3; applies = not (isSoundBytes s) }
+
+abbrev pub noNode : List ℕ → ℕ → Refusal
+noNode s a = record { number = 4; applies = leb (nodes s) a }
+
+abbrev pub oneNode : ℕ → ℕ → Refusal
+oneNode a b = record { number = 5; applies = eqb a b }
+
+abbrev pub isUp : List ℕ → ℕ → ℕ → Refusal
+isUp s a b = record { number = 6; applies = rule.up (read s) a b }
+
+abbrev pub isDown : List ℕ → ℕ → ℕ → Refusal
+isDown s a b = record { number = 7; applies = not (rule.up (read s) a b) }
+
+abbrev pub nothingWaits : List ℕ → ℕ → ℕ → Refusal
+nothingWaits s w u = record { number = 8; applies = eqb (length (read s .queue w u)) 0 }
+
+-- Order for calls on a state: empty buffer 2, then 1, short buffer 2, 3, 4, 5, 6 or 7, 8, last an output that is too short 2. Making a state: 1, then 2.
+abbrev pub onState : List ℕ → List Refusal → List Refusal
+onState s more = empty s ∷ badCount (nodes s) ∷ short s (size (nodes s)) ∷ notSound s ∷ more
+
+unfoldable pub refusals : Call → List ℕ → List ℕ → List Refusal
+refusals (make n) s out = badCount n ∷ short s (size n) ∷ []
+refusals check s out = onState s []
+refusals (up a b) s out = onState s (noNode s a ∷ noNode s b ∷ oneNode a b ∷ isUp s a b ∷ [])
+refusals (down a b) s out = onState s (noNode s a ∷ noNode s b ∷ oneNode a b ∷ isDown s a b ∷ [])
+refusals (deliver w u) s out = onState s (noNode s w ∷ noNode s u ∷ oneNode w u ∷ isDown s w u ∷ nothingWaits s w u ∷ [])
+refusals pass s out = onState s []
+refusals (run k) s out = onState s []
+refusals (distance u v) s out = onState s (noNode s u ∷ noNode s v ∷ [])
+refusals (downstream u v) s out = onState s (noNode s u ∷ noNode s v ∷ [])
+refusals (queueLength w u) s out = onState s (noNode s w ∷ noNode s u ∷ oneNode w u ∷ [])
+refusals totalQueued s out = onState s []
+refusals (status u) s out = onState s (noNode s u ∷ short out 14 ∷ [])
+refusals (writeEvent e) s out = short out (length (eventRecord e)) ∷ []
+
+-- What a call gives: its number, its other answers (0 where it has none), and the bytes of the buffer and of the output as it leaves them.
+pub record Outcome : Type 0 where
+  pub number : ℕ
+  pub value : ℕ
+  pub passes : ℕ
+  pub deliveries : ℕ
+  pub bytes : List ℕ
+  pub output : List ℕ
+
+-- A refusal returns its number, zero in every other answer, and no byte changes.
+abbrev pub refused : ℕ → List ℕ → List ℕ → Outcome
+refused c s out = record { number = c; value = 0; passes = 0; deliveries = 0; bytes = s; output = out }
+
+-- An answer changes no byte.
+abbrev pub answered : ℕ → List ℕ → List ℕ → Outcome
+answered x s out = record { number = 0; value = x; passes = 0; deliveries = 0; bytes = s; output = out }
+
+-- The new state is stored over the old, and the bytes after it stay.
+abbrev pub restored : State → List ℕ → List ℕ
+restored t s = stored t ++ drop (size (t .n)) s
+
+abbrev pub changed : State → ℕ → ℕ → List ℕ → List ℕ → Outcome
+changed t k d s out = record { number = 0; value = 0; passes = k; deliveries = d; bytes = restored t s; output = out }
+
+-- A record is written to the output, and the bytes after it stay.
+abbrev pub recorded : List ℕ → List ℕ → List ℕ → Outcome
+recorded r s out = record { number = 0; value = length r; passes = 0; deliveries = 0; bytes = s; output = written r out }
+
+unfoldable pub done : Call → List ℕ → List ℕ → Outcome
+done (make n) s out = changed (rule.fresh n) 0 0 s out
+done check s out = answered 0 s out
+done (up a b) s out = changed (rule.linkUp (read s) a b) 0 0 s out
+done (down a b) s out = changed (rule.linkDown (read s) a b) 0 0 s out
+done (deliver w u) s out = changed (rule.deliver (read s) w u) 0 0 s out
+done pass s out = changed (rule.pass (read s)) 0 (rule.total (read s)) s out
+done (run k) s out = let m = rule.made (read s) k in changed (rule.passes (read s) m) m (rule.delivered (read s) m) s out
+done (distance u v) s out = answered (read s .distance u v) s out
+done (downstream u v) s out = answered (read s .downstream u v) s out
+done (queueLength w u) s out = answered (length (read s .queue w u)) s out
+done totalQueued s out = answered (rule.total (read s)) s out
+done (status u) s out = recorded (statusRecord (read s) u) s out
+done (writeEvent e) s out = recorded (eventRecord e) s out
+
+-- Every public call: refused by the first refusal that applies, or else done.
+unfoldable pub outcome : Call → List ℕ → List ℕ → Outcome
+outcome c s out = let r = judge (refusals c s out) in elim (eqb r 0) [ true ↦ done c s out | false ↦ refused r s out ]

@@ -1,0 +1,135 @@
+-- 01, 'The rule': Tajibnapis's rule as functions from a state to a state, in 01's order. Uses State and Words.
+use mathlib.Core.Bool.{Bool, true, false, not, _&&_, _||_}
+use mathlib.Core.List.{List, [], _∷_}
+use Prim.Native.Nat.{ℕ, zero, suc, _+_, min}
+use lib.Dec.{eqb, ltb}
+use lib.ListN.{length}
+use Rattle.hop_rule.specs.Words.{if_then_else_, loop, sum, listed, first}
+use Rattle.hop_rule.specs.State.{State, Entry, Route}
+
+-- A link is up at u's end where its byte is exactly 1.
+abbrev pub up : State → ℕ → ℕ → Bool
+up s u w = eqb (s .link u w) 1
+
+-- 'Recompute': the smaller of n and 1 + the least view of v over u's up links to the first k nodes.
+unfoldable pub least : State → ℕ → ℕ → ℕ → ℕ
+least s u v zero = s .n
+least s u v (suc w) = if up s u w then min (suc (s .view u w v)) (least s u v w) else least s u v w
+
+-- 'Recompute': the lowest-numbered neighbour that gives the distance d, or 255 (none) where d is n.
+unfoldable pub nearest : State → ℕ → ℕ → ℕ → ℕ
+nearest s u v d = if eqb d (s .n) then 255 else first (s .n) (λ w. up s u w && eqb (suc (s .view u w v)) d)
+
+-- 'Recompute': what it gives for v at u. If v = u: distance 0, downstream u, always.
+unfoldable pub route : State → ℕ → ℕ → Route
+route s u v =
+    let d = least s u v (s .n) in
+    if eqb u v then record { distance = 0; downstream = u } else record { distance = d; downstream = nearest s u v d }
+
+-- 'Sending': if v already waits, its value is replaced and it keeps its place; otherwise the entry joins the tail.
+unfoldable pub send : Entry → List Entry → List Entry
+send e [] = e ∷ []
+send e (f ∷ q) = if eqb (e .destination) (f .destination) then e ∷ q else f ∷ send e q
+
+-- 'Recompute' of v at u. If the distance changed, the entry (v, new distance) is sent on each up link of u; a changed downstream alone sends nothing.
+unfoldable pub recompute : State → ℕ → ℕ → State
+recompute s u v =
+    let new = route s u v in
+    let changed = not (eqb (new .distance) (s .distance u v)) in
+    let entry : Entry = record { destination = v; value = new .distance } in
+    record {
+      n = s .n;
+      link = s .link;
+      distance = λ a c. if eqb a u && eqb c v then new .distance else s .distance a c;
+      downstream = λ a c. if eqb a u && eqb c v then new .downstream else s .downstream a c;
+      view = s .view;
+      queue = λ a b. if eqb a u && (up s u b && changed) then send entry (s .queue a b) else s .queue a b;
+    }
+
+-- 'Deliver', its first half: the head entry leaves the queue from w to u, and u's view of its destination from w becomes its value.
+unfoldable pub hear : State → ℕ → ℕ → Entry → List Entry → State
+hear s w u head rest = record {
+  n = s .n;
+  link = s .link;
+  distance = s .distance;
+  downstream = s .downstream;
+  view = λ a b c. if eqb a u && (eqb b w && eqb c (head .destination)) then head .value else s .view a b c;
+  queue = λ a b. if eqb a w && eqb b u then rest else s .queue a b;
+}
+
+-- 'Deliver' from w to u: the head entry is heard, and u recomputes its destination. From an empty queue there is nothing to deliver.
+unfoldable pub deliver : State → ℕ → ℕ → State
+deliver s w u = elim (s .queue w u) [ [] ↦ s | head ∷ rest ↦ recompute (hear s w u head rest) u (head .destination) ]
+
+-- Is x → y one of the two directions of the link a, b?
+abbrev pub between : ℕ → ℕ → ℕ → ℕ → Bool
+between a b x y = (eqb x a && eqb y b) || (eqb x b && eqb y a)
+
+-- 'Link up' a, b: each end puts all n destinations, ascending, with its own distances, into its queue to the other, those of value n too. Nothing is recomputed.
+unfoldable pub linkUp : State → ℕ → ℕ → State
+linkUp s a b = record {
+  n = s .n;
+  link = λ x y. if between a b x y then 1 else s .link x y;
+  distance = s .distance;
+  downstream = s .downstream;
+  view = s .view;
+  queue = λ x y. if between a b x y then listed (s .n) (λ v. record { destination = v; value = s .distance x v }) else s .queue x y;
+}
+
+-- 'Link down', its first half: the link is down, both queues are emptied, and the views on it become n.
+unfoldable pub cut : State → ℕ → ℕ → State
+cut s a b = record {
+  n = s .n;
+  link = λ x y. if between a b x y then 0 else s .link x y;
+  distance = s .distance;
+  downstream = s .downstream;
+  view = λ x y v. if between a b x y then s .n else s .view x y v;
+  queue = λ x y. if between a b x y then [] else s .queue x y;
+}
+
+-- u recomputes every destination, in ascending order.
+unfoldable pub recomputeAll : State → ℕ → State
+recomputeAll s u = loop (s .n) (λ v t. recompute t u v) s
+
+-- 'Link down' a, b: both ends see it at one moment, and each recomputes every destination.
+unfoldable pub linkDown : State → ℕ → ℕ → State
+linkDown s a b = recomputeAll (recomputeAll (cut s a b) a) b
+
+-- 'Pass': queues in ascending order of sender, then receiver; each gives up as many entries as it held when the pass began.
+unfoldable pub pass : State → State
+pass s = loop (s .n) (λ w. loop (s .n) (λ u. loop (length (s .queue w u)) (λ i t. deliver t w u))) s
+
+-- The entries that wait: in the whole state, for node u, from node u.
+unfoldable pub total : State → ℕ
+total s = sum (s .n) (λ w. sum (s .n) (λ u. length (s .queue w u)))
+
+unfoldable pub waitingFor : State → ℕ → ℕ
+waitingFor s u = sum (s .n) (λ w. length (s .queue w u))
+
+unfoldable pub waitingFrom : State → ℕ → ℕ
+waitingFrom s u = sum (s .n) (λ x. length (s .queue u x))
+
+-- Destinations other than u itself that u has at a distance below n.
+unfoldable pub reached : State → ℕ → ℕ
+reached s u = sum (s .n) (λ v. if not (eqb v u) && ltb (s .distance u v) (s .n) then 1 else 0)
+
+-- 'Run': k passes; how many of an allowance k are made, the least number that empties every queue, or k if that is smaller; and what they deliver, the sum of what was queued at the start of each.
+unfoldable pub passes : State → ℕ → State
+passes s k = loop k (λ i. pass) s
+
+unfoldable pub made : State → ℕ → ℕ
+made s k = first k (λ j. eqb (total (passes s j)) 0)
+
+unfoldable pub delivered : State → ℕ → ℕ
+delivered s k = sum k (λ j. total (passes s j))
+
+-- 'Fresh': no links, distance n and downstream 255 off the diagonal.
+unfoldable pub fresh : ℕ → State
+fresh n = record {
+  n = n;
+  link = λ u w. 0;
+  distance = λ u v. if eqb u v then 0 else n;
+  downstream = λ u v. if eqb u v then u else 255;
+  view = λ u w v. n;
+  queue = λ w u. [];
+}
