@@ -131,4 +131,7 @@ done (writeEvent e) s out = recorded (eventRecord e) s out
 
 -- Every public call: refused by the first refusal that applies, or else done.
 unfoldable pub outcome : Call → List ℕ → List ℕ → Outcome
-outcome c s out = let r = judge (refusals c s out) in elim (eqb r 0) [ true ↦ done c s out | false ↦ refused r s out ]
+outcome c s out =
+    let r = judge (refusals c s out) in
+    let d = done c s out in
+    if eqb r 0 then d else refused r s out

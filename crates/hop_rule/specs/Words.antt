@@ -35,4 +35,4 @@ every (suc k) p = every k p && p k
 -- The least of 0, 1, .. k − 1 that passes the test, or k if none does.
 unfoldable pub first : ℕ → (ℕ → Bool) → ℕ
 first zero p = zero
-first (suc k) p = elim (p 0) [ true ↦ 0 | false ↦ suc (first k (λ j. p (suc j))) ]
+first (suc k) p = let later = suc (first k (λ j. p (suc j))) in if p 0 then 0 else later
