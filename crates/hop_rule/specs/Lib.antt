@@ -6,3 +6,5 @@ pub mod Sound
 pub mod Records
 pub mod Calls
 pub mod Numbers
+pub mod Damage
+pub mod Readings

@@ -84,6 +84,8 @@ table =
     ∷ sees (up 2 2 ∷ []) answers (4 ∷ 0 ∷ 0 ∷ 0 ∷ [])
     -- P8 status of node 1
     ∷ sees (status 1 ∷ []) output (12 ∷ 0 ∷ 1 ∷ 0 ∷ 1 ∷ 0 ∷ 2 ∷ 0 ∷ 2 ∷ 0 ∷ 0 ∷ 0 ∷ 4 ∷ 0 ∷ [])
+    -- Our own: the same after P4, where what waits for node 1 and what waits from it differ, and it reaches the other
+    ∷ sees (deliver 0 1 ∷ status 1 ∷ []) output (12 ∷ 0 ∷ 1 ∷ 0 ∷ 1 ∷ 0 ∷ 1 ∷ 0 ∷ 2 ∷ 0 ∷ 1 ∷ 0 ∷ 3 ∷ 0 ∷ [])
     ∷ [])
     -- P9 line 0-1-2, n = 3, at rest, down 1 2: 1 waits; rest after 2 deliveries; 0 has distance 3 to 2
     ∷ case 118 (make 3 ∷ up 0 1 ∷ up 1 2 ∷ run 255 ∷ down 1 2 ∷ [])
