@@ -1,2 +1,15 @@
 pub mod Tests
 pub mod Words
+pub mod Rule
+pub mod Queues
+pub mod Sound
+pub mod Blocks
+pub mod Stored
+pub mod Same
+pub mod Read
+pub mod Calls
+pub mod Fresh
+pub mod Records
+pub mod Ceiling
+pub mod Fits
+pub mod Top

@@ -8,7 +8,7 @@ use native.Mathlib.Decide.{ℕ-discrete, decLt}
 use native.Mathlib.Numerals.{add-one}
 use native.Mathlib.Omega.{arith}
 use lib.ListN.{length, getD, length-append, List·getD-append}
-use lib.Seq.{getD-append-add, getD-append-seam, getD-at}
+use lib.Seq.{getD-at}
 use Rattle.hop_rule.specs.Words.{loop, sum, listed, joined, first}
 use Rattle.hop_laws.proofs.Tests.{true-not-false}
 

@@ -1,6 +1,6 @@
 -- 01, 'Refusal numbers', and every public call: its refusals in the order in which they are judged, and what it gives where none applies.
 -- A call has a buffer s, which holds the state, and an output out, [] where it writes none. Uses Rule, Stored, Sound and Records.
-use mathlib.Core.Bool.{Bool, true, false, not, _||_}
+use mathlib.Core.Bool.{Bool, not, _||_}
 use mathlib.Core.List.{List, [], _∷_, _++_}
 use Prim.Native.Nat.{ℕ}
 use lib.Dec.{eqb, ltb, leb}

@@ -7,7 +7,6 @@ use lib.ListN.{length, set, replicate}
 use Rattle.hop_rule.specs.declared.Table.{Table}
 use Rattle.hop_rule.specs.declared.Table.the-variants.{Links, Distances, Downstreams, Views, Lengths, Destinations, Values}
 use Rattle.hop_rule.specs.Words.{loop, sum, listed, joined, every, first}
-use Rattle.hop_rule.specs.State.{State}
 use Rattle.hop_rule.specs.Rule.{least, nearest, route, linkUp, fresh}
 use Rattle.hop_rule.specs.Stored.{size, grid, cube, destinationAt, valueAt, block, stored, start, flat, deep, read}
 use Rattle.hop_rule.specs.Sound.{waits, differ, each, pairs, triples, isSound, isSoundBytes}

@@ -1,7 +1,7 @@
 -- 01, 'The rule': Tajibnapis's rule as functions from a state to a state, in 01's order. Uses State and Words.
-use mathlib.Core.Bool.{Bool, true, false, not, _&&_, _||_}
+use mathlib.Core.Bool.{Bool, not, _&&_, _||_}
 use mathlib.Core.List.{List, [], _∷_}
-use Prim.Native.Nat.{ℕ, zero, suc, _+_, min}
+use Prim.Native.Nat.{ℕ, zero, suc, min}
 use lib.Dec.{eqb, ltb}
 use lib.ListN.{length}
 use Rattle.hop_rule.specs.Words.{if_then_else_, loop, sum, listed, first}

@@ -1,0 +1,97 @@
+-- Two states that are the same below n cannot be told apart: not by recompute, not by sound, not by their bytes. Assumes nothing.
+use mathlib.Core.Path.{_≡_, refl, sym, ap, _∙_}
+use Prim.Native.Nat.{ℕ, _<_}
+use native.Mathlib.Omega.{arith}
+use lib.ListN.{length}
+use Rattle.hop_rule.specs.declared.Table.{Table}
+use Rattle.hop_rule.specs.declared.Table.the-variants.{Links, Distances, Downstreams, Views, Lengths, Destinations, Values}
+use Rattle.hop_rule.specs.State.{State}
+use Rattle.hop_rule.specs.Rule.{route}
+use Rattle.hop_rule.specs.Stored.{block, stored}
+use Rattle.hop_rule.specs.Sound.{Sound}
+use Rattle.hop_laws.specs.Same.{Same}
+use Rattle.hop_laws.proofs.Rule.{route-same}
+use Rattle.hop_laws.proofs.Queues.{each-as, each-both}
+use Rattle.hop_laws.proofs.Blocks.{grid-same, cube-same}
+
+pub same-refl : (s : State) → Same s s
+same-refl s = record {
+  n = refl;
+  link = λ u w lu lw. refl;
+  distance = λ u v lu lv. refl;
+  downstream = λ u v lu lv. refl;
+  view = λ u w v lu lw lv. refl;
+  queue = λ w u lw lu. refl;
+}
+
+pub same-sym : {s t : State} → Same s t → Same t s
+same-sym e = record {
+  n = sym (e .n);
+  link = λ u w lu lw. sym (e .link u w (omega arith) (omega arith));
+  distance = λ u v lu lv. sym (e .distance u v (omega arith) (omega arith));
+  downstream = λ u v lu lv. sym (e .downstream u v (omega arith) (omega arith));
+  view = λ u w v lu lw lv. sym (e .view u w v (omega arith) (omega arith) (omega arith));
+  queue = λ w u lw lu. sym (e .queue w u (omega arith) (omega arith));
+}
+
+pub same-trans : {s t r : State} → Same s t → Same t r → Same s r
+same-trans e f = record {
+  n = e .n ∙ f .n;
+  link = λ u w lu lw. e .link u w lu lw ∙ f .link u w (omega arith) (omega arith);
+  distance = λ u v lu lv. e .distance u v lu lv ∙ f .distance u v (omega arith) (omega arith);
+  downstream = λ u v lu lv. e .downstream u v lu lv ∙ f .downstream u v (omega arith) (omega arith);
+  view = λ u w v lu lw lv. e .view u w v lu lw lv ∙ f .view u w v (omega arith) (omega arith) (omega arith);
+  queue = λ w u lw lu. e .queue w u lw lu ∙ f .queue w u (omega arith) (omega arith);
+}
+
+module _ {s t : State} (e : Same s t) where
+  -- Recompute reads only a node's own links, and its views of the one destination.
+  routes-same : (u v : ℕ) → u < s .n → v < s .n → route s u v ≡ route t u v
+  routes-same u v lu lv = sym (route-same s t u v (sym (e .n)) (λ w l. sym (e .link u w lu l)) (λ w l. sym (e .view u w v lu l lv)))
+
+  pub sound-same : Sound s → Sound t
+  sound-same h = record {
+    bits = λ u w lu lw. rw (f .link u w lu lw) (h .bits u w (in-s lu) (in-s lw));
+    symmetric = λ u w lu lw. f .link u w lu lw ∙ h .symmetric u w (in-s lu) (in-s lw) ∙ sym (f .link w u lw lu);
+    diagonal = λ u lu. f .link u u lu lu ∙ h .diagonal u (in-s lu);
+    distances = λ u v lu lv. f .distance u v lu lv ∙ h .distances u v (in-s lu) (in-s lv) ∙ ap (λ r. r .distance) (routes-same u v (in-s lu) (in-s lv));
+    downstreams = λ u v lu lv. f .downstream u v lu lv ∙ h .downstreams u v (in-s lu) (in-s lv) ∙ ap (λ r. r .downstream) (routes-same u v (in-s lu) (in-s lv));
+    views = λ u w v lu lw lv. omega (arith, f .view u w v lu lw lv, h .views u w v (in-s lu) (in-s lw) (in-s lv));
+    down-views = λ u w v lu lw lv down. f .view u w v lu lw lv ∙ h .down-views u w v (in-s lu) (in-s lw) (in-s lv) (λ k. down (f .link u w lu lw ∙ k)) ∙ e .n;
+    down-queues = λ u w lu lw down. f .queue w u lw lu ∙ h .down-queues u w (in-s lu) (in-s lw) (λ k. down (f .link u w lu lw ∙ k));
+    lengths = λ u w lu lw. rw (f .queue w u lw lu, ← e .n) (h .lengths u w (in-s lu) (in-s lw));
+    differ = λ u w lu lw up. rw (f .queue w u lw lu) (h .differ u w (in-s lu) (in-s lw) (up-s lu lw up));
+    below = λ u w lu lw up.
+        let below = h .below u w (in-s lu) (in-s lw) (up-s lu lw up) in
+        rw (f .queue w u lw lu) (each-as _ _ (s .queue w u) (λ x l. omega arith) below);
+    values = λ u w lu lw up.
+        let below = h .below u w (in-s lu) (in-s lw) (up-s lu lw up) in
+        rw (f .queue w u lw lu) (each-as _ _ (s .queue w u) (λ x p. p .1 ∙ e .distance w (x .destination) (in-s lw) (p .0)) (each-both _ _ (s .queue w u) below (h .values u w (in-s lu) (in-s lw) (up-s lu lw up))));
+    heard = λ u w v lu lw lv up out.
+        f .view u w v lu lw lv
+        ∙ h .heard u w v (in-s lu) (in-s lw) (in-s lv) (up-s lu lw up) (λ k. out (rw (f .queue w u lw lu) k))
+        ∙ e .distance w v (in-s lw) (in-s lv);
+  }
+    where
+      f : Same t s
+      f = same-sym e
+
+      in-s : {u : ℕ} → u < t .n → u < s .n
+      in-s l = omega arith
+
+      up-s : {u w : ℕ} → u < t .n → w < t .n → t .link u w ≡ 1 → s .link u w ≡ 1
+      up-s {u} {w} lu lw up = e .link u w (in-s lu) (in-s lw) ∙ up
+
+  block-same : (k : Table) → block s k ≡ block t k
+  unfolding block
+  block-same Links = rw (← e .n) (grid-same (s .n) (s .link) (t .link) (e .link))
+  block-same Distances = rw (← e .n) (grid-same (s .n) (s .distance) (t .distance) (e .distance))
+  block-same Downstreams = rw (← e .n) (grid-same (s .n) (s .downstream) (t .downstream) (e .downstream))
+  block-same Views = rw (← e .n) (cube-same (s .n) (s .view) (t .view) (e .view))
+  block-same Lengths = rw (← e .n) (grid-same (s .n) _ _ (λ w u lw lu. ap length (e .queue w u lw lu)))
+  block-same Destinations = rw (← e .n) (cube-same (s .n) _ _ (λ w u p lw lu lp. rw (e .queue w u lw lu)))
+  block-same Values = rw (← e .n) (cube-same (s .n) _ _ (λ w u p lw lu lp. rw (e .queue w u lw lu)))
+
+  pub stored-same : stored s ≡ stored t
+  unfolding stored
+  stored-same = cc (e .n, block-same Links, block-same Distances, block-same Downstreams, block-same Views, block-same Lengths, block-same Destinations, block-same Values)

@@ -1,0 +1,215 @@
+-- Every event keeps a sound state sound. Each first leaves a state that is sound but for some stale pairs, and then recomputes just those. Assumes nothing.
+use mathlib.Core.Path.{_≡_, refl, sym, ap, subst, _∙_}
+use mathlib.Core.Logic.{_⊎_, inl, inr, _≢_}
+use mathlib.Core.List.{List, [], _∷_}
+use Prim.Native.Nat.{ℕ, _≤_, _<_}
+use native.Mathlib.Nat.{le-of-eq}
+use native.Mathlib.Decide.{ℕ-discrete}
+use native.Mathlib.Omega.{arith}
+use lib.ListN.{length}
+use Rattle.hop_rule.specs.State.{State, Entry, Route}
+use Rattle.hop_rule.specs.Rule.{route, recompute, hear, deliver, linkUp, cut, recomputeAll, linkDown, pass, passes}
+use Rattle.hop_rule.specs.Sound.{Sound}
+use Rattle.hop_laws.proofs.Tests.{tells-eq, tells-and, decides}
+use Rattle.hop_laws.proofs.Words.{loop-keeps}
+use Rattle.hop_laws.proofs.Rule.{route-same, route-alike, route-distance-most, hear-view-at, hear-view-other, hear-queue-at, hear-queue-other, deliver-head, deliver-none, Between, tells-between, between-back, up-link-at, up-link-other, up-queue-at, up-queue-other, cut-link-at, cut-link-other, cut-view-at, cut-view-other, cut-queue-at, cut-queue-other}
+use Rattle.hop_rest.proofs.Frame.{deliver-n}
+use Rattle.hop_rest.proofs.Mended.{Carries, Steady, SoundBut, sound-steady, but-sound, carries-same, carries-hear, carries-all, recompute-mends, recompute-all-mends, recompute-all-n}
+
+-- ---- deliver
+
+-- Entries wait on up links only.
+pub waiting-linked : (s : State) (w u : ℕ) → Sound s → w < s .n → u < s .n → (head : Entry) (rest : List Entry) → s .queue w u ≡ head ∷ rest → s .link u w ≡ 1
+waiting-linked s w u o lw lu head rest e = go (ℕ-discrete (s .link u w) 1)
+  where
+    go : Dec (s .link u w ≡ 1) → s .link u w ≡ 1
+    go (yes q) = q
+    go (no f) = absurd (omega (arith, ap length (sym (o .down-queues u w lu lw f) ∙ e)))
+
+module _ (s : State) (w u : ℕ) (head : Entry) (rest : List Entry) (o : Sound s) (lw : w < s .n) (lu : u < s .n) (linked : s .link u w ≡ 1) (waits : s .queue w u ≡ head ∷ rest) where
+  c : Steady s
+  c = sound-steady o
+
+  first : Carries (s .n) (s .distance w) (s .view u w) (head ∷ rest)
+  first = subst (Carries (s .n) (s .distance w) (s .view u w)) waits (c .carries u w lu lw linked)
+
+  heard-carries : (x y : ℕ) → x < s .n → y < s .n → s .link x y ≡ 1 → Carries (s .n) (s .distance y) (hear s w u head rest .view x y) (hear s w u head rest .queue y x)
+  heard-carries x y lx ly q = go (decides (tells-and (tells-eq y w) (tells-eq x u)))
+    where
+      go : Dec ((y ≡ w) × (x ≡ u)) → Carries (s .n) (s .distance y) (hear s w u head rest .view x y) (hear s w u head rest .queue y x)
+      go (yes p) =
+          rw (p .0, p .1, hear-queue-at s w u head rest)
+          (carries-hear _ _ _ _ head rest (hear-view-at s w u head rest) (λ v k. hear-view-other s w u head rest u w v (λ i j. k)) first)
+      go (no f) =
+          rw (hear-queue-other s w u head rest y x (λ i j. f (i, j)))
+          (carries-same _ _ _ _ _ _ (λ v l. refl) (λ v l. hear-view-other s w u head rest x y v (λ i j. absurd (f (j, i)))) (c .carries x y lx ly q))
+
+  -- What is heard makes one pair stale.
+  hear-stale : SoundBut (λ a b. (a ≡ u) × (b ≡ head .destination)) (hear s w u head rest)
+  unfolding hear
+  hear-stale = record {
+    steady = record {
+      bits = c .bits;
+      symmetric = c .symmetric;
+      diagonal = c .diagonal;
+      views = λ x y v lx ly lv. low x y v lx ly lv (decides (tells-and (tells-eq x u) (tells-and (tells-eq y w) (tells-eq v (head .destination)))));
+      down-views = λ x y v lx ly lv f. hear-view-other s w u head rest x y v (λ i j. absurd (f (is-linked x y i j))) ∙ c .down-views x y v lx ly lv f;
+      down-queues = λ x y lx ly f. hear-queue-other s w u head rest y x (λ j i. f (is-linked x y i j)) ∙ c .down-queues x y lx ly f;
+      carries = heard-carries;
+    };
+    distances = λ a b la lb f. o .distances a b la lb ∙ sym (ap (λ (r : Route). r .distance) (same a b f));
+    downstreams = λ a b la lb f. o .downstreams a b la lb ∙ sym (ap (λ (r : Route). r .downstream) (same a b f));
+  }
+    where
+      low : (x y v : ℕ) → x < s .n → y < s .n → v < s .n → Dec ((x ≡ u) × ((y ≡ w) × (v ≡ head .destination))) → hear s w u head rest .view x y v ≤ s .n
+      low x y v lx ly lv (yes p) =
+          let e : head .value ≡ route s w (head .destination) .distance = first .entries .0 .1 ∙ o .distances w (head .destination) lw (first .entries .0 .0) in
+          rw (p .0, p .1 .0, p .1 .1, hear-view-at s w u head rest, e) (route-distance-most s w (head .destination))
+      low x y v lx ly lv (no f) = rw (hear-view-other s w u head rest x y v (λ i j k. f (i, (j, k)))) (o .views x y v lx ly lv)
+
+      is-linked : (x y : ℕ) → x ≡ u → y ≡ w → s .link x y ≡ 1
+      is-linked x y i j = rw (i, j) linked
+
+      same : (a b : ℕ) → ((a ≡ u) × (b ≡ head .destination) → ⊥) → route (hear s w u head rest) a b ≡ route s a b
+      same a b f = route-same s (hear s w u head rest) a b refl (λ y l. refl) (λ y l. hear-view-other s w u head rest a y b (λ i j k. f (i, k)))
+
+  mended : Sound (recompute (hear s w u head rest) u (head .destination))
+  unfolding hear recompute
+  mended = but-sound _ _ (λ a b la lb p. p .1 (p .0 .0) (p .0 .1)) (recompute-mends (λ a b. (a ≡ u) × (b ≡ head .destination)) (hear s w u head rest) u (head .destination) lu (first .entries .0 .0) hear-stale)
+
+pub deliver-keeps-sound : (s : State) (w u : ℕ) → Sound s → w < s .n → u < s .n → Sound (deliver s w u)
+deliver-keeps-sound s w u o lw lu = go (s .queue w u) refl
+  where
+    go : (q : List Entry) → s .queue w u ≡ q → Sound (deliver s w u)
+    go [] e = subst Sound (sym (deliver-none s w u e)) o
+    go (head ∷ rest) e = subst Sound (sym (deliver-head s w u head rest e)) (mended s w u head rest o lw lu (waiting-linked s w u o lw lu head rest e) e)
+
+-- ---- link down
+
+module _ (s : State) (a b : ℕ) (o : Sound s) where
+  cut-symmetric : (x y : ℕ) → x < s .n → y < s .n → Dec (Between a b x y) → cut s a b .link x y ≡ cut s a b .link y x
+  cut-symmetric x y lx ly (yes h) = cut-link-at s a b x y h ∙ sym (cut-link-at s a b y x (between-back h))
+  cut-symmetric x y lx ly (no f) = cut-link-other s a b x y f ∙ o .symmetric x y lx ly ∙ sym (cut-link-other s a b y x (λ h. f (between-back h)))
+
+  cut-carries : (x y : ℕ) → x < s .n → y < s .n → cut s a b .link x y ≡ 1 → (Between a b x y → ⊥) → Carries (s .n) (s .distance y) (cut s a b .view x y) (cut s a b .queue y x)
+  cut-carries x y lx ly q f =
+      rw (cut-queue-other s a b y x (λ h. f (between-back h)))
+      (carries-same _ _ _ _ _ _ (λ v l. refl) (λ v l. cut-view-other s a b x y v f) (sound-steady o .carries x y lx ly (sym (cut-link-other s a b x y f) ∙ q)))
+
+  -- Each end's pairs may be stale.
+  cut-stale : SoundBut (λ x v. (x ≡ a) ⊎ (x ≡ b)) (cut s a b)
+  unfolding cut
+  cut-stale = record {
+    steady = record {
+      bits = λ x y lx ly. bit x y lx ly (decides (tells-between a b x y));
+      symmetric = λ x y lx ly. cut-symmetric x y lx ly (decides (tells-between a b x y));
+      diagonal = λ x lx. down x lx (decides (tells-between a b x x));
+      views = λ x y v lx ly lv. view x y v lx ly lv (decides (tells-between a b x y));
+      down-views = λ x y v lx ly lv f. down-view x y v lx ly lv f (decides (tells-between a b x y));
+      down-queues = λ x y lx ly f. down-queue x y lx ly f (decides (tells-between a b x y));
+      carries = λ x y lx ly q. cut-carries x y lx ly q (λ h. omega (arith, cut-link-at s a b x y h));
+    };
+    distances = λ x v lx lv f. o .distances x v lx lv ∙ sym (ap (λ (r : Route). r .distance) (same x v f));
+    downstreams = λ x v lx lv f. o .downstreams x v lx lv ∙ sym (ap (λ (r : Route). r .downstream) (same x v f));
+  }
+    where
+      bit : (x y : ℕ) → x < s .n → y < s .n → Dec (Between a b x y) → cut s a b .link x y ≤ 1
+      bit x y lx ly (yes h) = omega (arith, cut-link-at s a b x y h)
+      bit x y lx ly (no f) = omega (arith, cut-link-other s a b x y f, o .bits x y lx ly)
+
+      down : (x : ℕ) → x < s .n → Dec (Between a b x x) → cut s a b .link x x ≡ 0
+      down x lx (yes h) = cut-link-at s a b x x h
+      down x lx (no f) = cut-link-other s a b x x f ∙ o .diagonal x lx
+
+      view : (x y v : ℕ) → x < s .n → y < s .n → v < s .n → Dec (Between a b x y) → cut s a b .view x y v ≤ s .n
+      view x y v lx ly lv (yes h) = le-of-eq (cut-view-at s a b x y v h)
+      view x y v lx ly lv (no f) = rw (cut-view-other s a b x y v f) (o .views x y v lx ly lv)
+
+      down-view : (x y v : ℕ) → x < s .n → y < s .n → v < s .n → cut s a b .link x y ≢ 1 → Dec (Between a b x y) → cut s a b .view x y v ≡ s .n
+      down-view x y v lx ly lv k (yes h) = cut-view-at s a b x y v h
+      down-view x y v lx ly lv k (no f) = cut-view-other s a b x y v f ∙ o .down-views x y v lx ly lv (λ q. k (cut-link-other s a b x y f ∙ q))
+
+      down-queue : (x y : ℕ) → x < s .n → y < s .n → cut s a b .link x y ≢ 1 → Dec (Between a b x y) → cut s a b .queue y x ≡ []
+      down-queue x y lx ly k (yes h) = cut-queue-at s a b y x (between-back h)
+      down-queue x y lx ly k (no f) = cut-queue-other s a b y x (λ h. f (between-back h)) ∙ o .down-queues x y lx ly (λ q. k (cut-link-other s a b x y f ∙ q))
+
+      same : (x v : ℕ) → ((x ≡ a) ⊎ (x ≡ b) → ⊥) → route (cut s a b) x v ≡ route s x v
+      same x v f = route-same s (cut s a b) x v refl (λ y l. cut-link-other s a b x y (away y)) (λ y l. cut-view-other s a b x y v (away y))
+        where
+          away : (y : ℕ) → Between a b x y → ⊥
+          away y (inl p) = f (inl (p .0))
+          away y (inr p) = f (inr (p .0))
+
+pub down-keeps-sound : (s : State) (a b : ℕ) → Sound s → a < s .n → b < s .n → Sound (linkDown s a b)
+unfolding linkDown cut
+down-keeps-sound s a b o la lb =
+    let n = recompute-all-n (cut s a b) a in
+    but-sound _ _ (λ x v lx lv p. elim (p .0 .0) [ inl i ↦ p .0 .1 i | inr i ↦ p .1 i ])
+    (recompute-all-mends _ (recomputeAll (cut s a b) a) b (omega arith) (recompute-all-mends _ (cut s a b) a la (cut-stale s a b o)))
+
+-- ---- link up
+
+module _ (s : State) (a b : ℕ) (o : Sound s) (la : a < s .n) (lb : b < s .n) (apart : a ≢ b) (down : s .link a b ≢ 1) where
+  was-down : (x y : ℕ) → Between a b x y → s .link x y ≢ 1
+  was-down x y (inl p) q = down (rw (← p .0, ← p .1) q)
+  was-down x y (inr p) q = down (o .symmetric a b la lb ∙ rw (← p .0, ← p .1) q)
+
+  up-symmetric : (x y : ℕ) → x < s .n → y < s .n → Dec (Between a b x y) → linkUp s a b .link x y ≡ linkUp s a b .link y x
+  up-symmetric x y lx ly (yes h) = up-link-at s a b x y h ∙ sym (up-link-at s a b y x (between-back h))
+  up-symmetric x y lx ly (no f) = up-link-other s a b x y f ∙ o .symmetric x y lx ly ∙ sym (up-link-other s a b y x (λ h. f (between-back h)))
+
+  up-carries : (x y : ℕ) → x < s .n → y < s .n → linkUp s a b .link x y ≡ 1 → Dec (Between a b x y) → Carries (s .n) (s .distance y) (s .view x y) (linkUp s a b .queue y x)
+  up-carries x y lx ly q (yes h) = rw (up-queue-at s a b y x (between-back h)) (carries-all (s .n) (s .distance y) (s .view x y))
+  up-carries x y lx ly q (no f) = rw (up-queue-other s a b y x (λ h. f (between-back h))) (sound-steady o .carries x y lx ly (sym (up-link-other s a b x y f) ∙ q))
+
+  -- The views on it are n, so that recompute finds what it found.
+  up-route : (x v : ℕ) → x < s .n → v < s .n → route (linkUp s a b) x v ≡ route s x v
+  unfolding linkUp
+  up-route x v lx lv = route-alike s (linkUp s a b) x v refl (λ y l q k. (still y q (decides (tells-between a b x y)), refl)) (λ y l q k. (before y l q k (decides (tells-between a b x y)), refl))
+    where
+      still : (y : ℕ) → s .link x y ≡ 1 → Dec (Between a b x y) → linkUp s a b .link x y ≡ 1
+      still y q (yes h) = up-link-at s a b x y h
+      still y q (no f) = up-link-other s a b x y f ∙ q
+
+      before : (y : ℕ) → y < s .n → linkUp s a b .link x y ≡ 1 → s .view x y v < s .n → Dec (Between a b x y) → s .link x y ≡ 1
+      before y l q k (yes h) = absurd (omega (arith, o .down-views x y v lx l lv (was-down x y h)))
+      before y l q k (no f) = sym (up-link-other s a b x y f) ∙ q
+
+  pub up-keeps-sound : Sound (linkUp s a b)
+  unfolding linkUp
+  up-keeps-sound = but-sound (λ x v. ⊥) (linkUp s a b) (λ x v lx lv p. p) (record {
+    steady = record {
+      bits = λ x y lx ly. bit x y lx ly (decides (tells-between a b x y));
+      symmetric = λ x y lx ly. up-symmetric x y lx ly (decides (tells-between a b x y));
+      diagonal = λ x lx. up-link-other s a b x x (λ h. elim h [ inl p ↦ apart (sym (p .0) ∙ p .1) | inr p ↦ apart (sym (p .1) ∙ p .0) ]) ∙ o .diagonal x lx;
+      views = o .views;
+      down-views = λ x y v lx ly lv k. o .down-views x y v lx ly lv (λ q. k (up-link-other s a b x y (off x y k) ∙ q));
+      down-queues = λ x y lx ly k. up-queue-other s a b y x (λ h. off x y k (between-back h)) ∙ o .down-queues x y lx ly (λ q. k (up-link-other s a b x y (off x y k) ∙ q));
+      carries = λ x y lx ly q. up-carries x y lx ly q (decides (tells-between a b x y));
+    };
+    distances = λ x v lx lv f. o .distances x v lx lv ∙ sym (ap (λ (r : Route). r .distance) (up-route x v lx lv));
+    downstreams = λ x v lx lv f. o .downstreams x v lx lv ∙ sym (ap (λ (r : Route). r .downstream) (up-route x v lx lv));
+  })
+    where
+      bit : (x y : ℕ) → x < s .n → y < s .n → Dec (Between a b x y) → linkUp s a b .link x y ≤ 1
+      bit x y lx ly (yes h) = omega (arith, up-link-at s a b x y h)
+      bit x y lx ly (no f) = omega (arith, up-link-other s a b x y f, o .bits x y lx ly)
+
+      off : (x y : ℕ) → linkUp s a b .link x y ≢ 1 → Between a b x y → ⊥
+      off x y k h = k (up-link-at s a b x y h)
+
+-- ---- pass and passes
+
+-- What deliveries between nodes keep, a pass keeps.
+pub pass-keeps : (P : State → Type 0) (s : State) → P s → ((t : State) (w u : ℕ) → w < s .n → u < s .n → P t → P (deliver t w u)) → P (pass s)
+unfolding pass
+pass-keeps P s p h =
+    loop-keeps P (s .n) _ s p (λ w x lw px. loop-keeps P (s .n) _ x px (λ u y lu py. loop-keeps P (length (s .queue w u)) _ y py (λ i z li pz. h z w u lw lu pz)))
+
+pub pass-keeps-sound : (s : State) → Sound s → Sound (pass s) × (pass s .n ≡ s .n)
+pass-keeps-sound s o = pass-keeps (λ t. Sound t × (t .n ≡ s .n)) s (o, refl) (λ t w u lw lu p. (deliver-keeps-sound t w u (p .0) (omega arith) (omega arith), deliver-n t w u ∙ p .1))
+
+pub passes-keeps-sound : (s : State) (k : ℕ) → Sound s → Sound (passes s k) × (passes s k .n ≡ s .n)
+unfolding passes
+passes-keeps-sound s k o =
+    loop-keeps (λ t. Sound t × (t .n ≡ s .n)) k _ s (o, refl) (λ i t l p. let r = pass-keeps-sound t (p .0) in (r .0, r .1 ∙ p .1))

@@ -1,0 +1,3 @@
+pub mod Frame
+pub mod Mended
+pub mod Kept

@@ -1,0 +1,214 @@
+-- 'Sound but for some stale pairs': the tables may be stale for some pairs of node and destination, and all else is sound. Recompute mends one pair. Assumes nothing.
+use mathlib.Core.Path.{_≡_, refl, sym, ap, subst, _∙_}
+use mathlib.Core.Logic.{inl, inr, _≢_}
+use mathlib.Core.List.{List, [], _∷_}
+use Prim.Native.Nat.{ℕ, zero, suc, _≤_, _<_}
+use native.Mathlib.Nat.{le-refl}
+use native.Mathlib.Decide.{ℕ-discrete}
+use native.Mathlib.Omega.{arith}
+use lib.ListN.{length}
+use Rattle.hop_rule.specs.Words.{loop, listed}
+use Rattle.hop_rule.specs.State.{State, Entry, Route}
+use Rattle.hop_rule.specs.Rule.{route, send, recompute, recomputeAll}
+use Rattle.hop_rule.specs.Sound.{Waits, Differ, Each, Sound}
+use Rattle.hop_laws.proofs.Tests.{tells-eq, tells-and, decides}
+use Rattle.hop_laws.proofs.Rule.{route-same, recompute-distance-at, recompute-distance-other, recompute-downstream-at, recompute-downstream-other, recompute-queue-sent, recompute-queue-other}
+use Rattle.hop_laws.proofs.Queues.{each-as, each-both, send-sends, send-keeps, send-differ, send-each, listed-each, listed-waits, listed-differ, differ-most}
+
+-- ---- a queue and its two ends
+
+-- What an up link's queue is sound by: the sender's distances, the receiver's views of what they were, and the entries between them.
+pub record Carries (n : ℕ) (distance view : ℕ → ℕ) (q : List Entry) : Type 0 where
+  pub differ : Differ q
+  pub entries : Each (λ e. (e .destination < n) × (e .value ≡ distance (e .destination))) q
+  pub heard : (v : ℕ) → v < n → (Waits v q → ⊥) → view v ≡ distance v
+
+-- Nothing else is read.
+pub carries-same : (n : ℕ) (d d′ m m′ : ℕ → ℕ) (q : List Entry) → ((v : ℕ) → v < n → d′ v ≡ d v) → ((v : ℕ) → v < n → m′ v ≡ m v) → Carries n d m q → Carries n d′ m′ q
+carries-same n d d′ m m′ q f g c = record {
+  differ = c .differ;
+  entries = each-as _ _ q (λ e p. (p .0, p .1 ∙ sym (f (e .destination) (p .0)))) (c .entries);
+  heard = λ v l k. g v l ∙ c .heard v l k ∙ sym (f v l);
+}
+
+-- The sender's distance to v changes, and is sent.
+pub carries-send : (n : ℕ) (d d′ m : ℕ → ℕ) (e : Entry) (q : List Entry) → e .destination < n → e .value ≡ d′ (e .destination) → ((v : ℕ) → v ≢ e .destination → d′ v ≡ d v)
+    → Carries n d m q → Carries n d′ m (send e q)
+carries-send n d d′ m e q l i f c = record {
+  differ = send-differ e q (c .differ);
+  entries = send-each e _ _ q (l, i) (λ x k p. (p .0, p .1 ∙ sym (f (x .destination) k))) (c .differ) (c .entries);
+  heard = λ v lv k. c .heard v lv (λ w. k (send-keeps e v q w)) ∙ sym (f v (λ j. k (subst (λ (x : ℕ). Waits x (send e q)) (sym j) (send-sends e q))));
+}
+
+-- The head is heard.
+pub carries-hear : (n : ℕ) (d m m′ : ℕ → ℕ) (e : Entry) (q : List Entry) → m′ (e .destination) ≡ e .value → ((v : ℕ) → v ≢ e .destination → m′ v ≡ m v) → Carries n d m (e ∷ q) → Carries n d m′ q
+carries-hear n d m m′ e q i f c = record {
+  differ = c .differ .1;
+  entries = c .entries .1;
+  heard = λ v l k. go v l k (ℕ-discrete v (e .destination));
+}
+  where
+    go : (v : ℕ) → v < n → (Waits v q → ⊥) → Dec (v ≡ e .destination) → m′ v ≡ d v
+    go v l k (yes j) = rw j (i ∙ c .entries .0 .1)
+    go v l k (no j) = f v j ∙ c .heard v l (λ w. elim w [ inl x ↦ j x | inr y ↦ k y ])
+
+-- All destinations wait.
+pub carries-all : (n : ℕ) (d m : ℕ → ℕ) → Carries n d m (listed n (λ v. record { destination = v; value = d v }))
+carries-all n d m = record {
+  differ = listed-differ f (λ v. refl) n;
+  entries = listed-each _ n f (λ v l. (l, refl));
+  heard = λ v l k. absurd (k (listed-waits f (λ v. refl) n v l));
+}
+  where
+    f : ℕ → Entry
+    f v = record { destination = v; value = d v }
+
+-- ---- all of sound but the tables
+
+pub record Steady (s : State) : Type 0 where
+  pub bits : (u w : ℕ) → u < s .n → w < s .n → s .link u w ≤ 1
+  pub symmetric : (u w : ℕ) → u < s .n → w < s .n → s .link u w ≡ s .link w u
+  pub diagonal : (u : ℕ) → u < s .n → s .link u u ≡ 0
+  pub views : (u w v : ℕ) → u < s .n → w < s .n → v < s .n → s .view u w v ≤ s .n
+  pub down-views : (u w v : ℕ) → u < s .n → w < s .n → v < s .n → s .link u w ≢ 1 → s .view u w v ≡ s .n
+  pub down-queues : (u w : ℕ) → u < s .n → w < s .n → s .link u w ≢ 1 → s .queue w u ≡ []
+  pub carries : (u w : ℕ) → u < s .n → w < s .n → s .link u w ≡ 1 → Carries (s .n) (s .distance w) (s .view u w) (s .queue w u)
+
+-- Sound, but that the pairs of P may be stale.
+pub record SoundBut (P : ℕ → ℕ → Type 0) (s : State) : Type 0 where
+  pub steady : Steady s
+  pub distances : (u v : ℕ) → u < s .n → v < s .n → (P u v → ⊥) → s .distance u v ≡ route s u v .distance
+  pub downstreams : (u v : ℕ) → u < s .n → v < s .n → (P u v → ⊥) → s .downstream u v ≡ route s u v .downstream
+
+pub sound-steady : {s : State} → Sound s → Steady s
+sound-steady {s} o = record {
+  bits = o .bits;
+  symmetric = o .symmetric;
+  diagonal = o .diagonal;
+  views = o .views;
+  down-views = o .down-views;
+  down-queues = o .down-queues;
+  carries = λ u w lu lw q. record {
+    differ = o .differ u w lu lw q;
+    entries = each-both _ _ (s .queue w u) (o .below u w lu lw q) (o .values u w lu lw q);
+    heard = λ v lv k. o .heard u w v lu lw lv q k;
+  };
+}
+
+-- Where no pair is stale the state is sound; the lengths follow from the entries.
+pub but-sound : (P : ℕ → ℕ → Type 0) (s : State) → ((u v : ℕ) → u < s .n → v < s .n → P u v → ⊥) → SoundBut P s → Sound s
+but-sound P s none o = record {
+  bits = c .bits;
+  symmetric = c .symmetric;
+  diagonal = c .diagonal;
+  distances = λ u v lu lv. o .distances u v lu lv (none u v lu lv);
+  downstreams = λ u v lu lv. o .downstreams u v lu lv (none u v lu lv);
+  views = c .views;
+  down-views = c .down-views;
+  down-queues = c .down-queues;
+  lengths = λ u w lu lw. short u w lu lw (ℕ-discrete (s .link u w) 1);
+  differ = λ u w lu lw q. c .carries u w lu lw q .differ;
+  below = below;
+  values = λ u w lu lw q. each-as _ _ (s .queue w u) (λ e p. p .1) (c .carries u w lu lw q .entries);
+  heard = λ u w v lu lw lv q k. c .carries u w lu lw q .heard v lv k;
+}
+  where
+    c : Steady s
+    c = o .steady
+
+    below : (u w : ℕ) → u < s .n → w < s .n → s .link u w ≡ 1 → Each (λ e. e .destination < s .n) (s .queue w u)
+    below u w lu lw q = each-as _ _ (s .queue w u) (λ e p. p .0) (c .carries u w lu lw q .entries)
+
+    short : (u w : ℕ) → u < s .n → w < s .n → Dec (s .link u w ≡ 1) → length (s .queue w u) ≤ s .n
+    short u w lu lw (yes q) = differ-most (s .n) (s .queue w u) (c .carries u w lu lw q .differ) (below u w lu lw q)
+    short u w lu lw (no f) = rw (c .down-queues u w lu lw f) (omega arith)
+
+-- ---- recompute of v at u mends the pair u, v
+
+module _ (P : ℕ → ℕ → Type 0) (s : State) (u v : ℕ) (lu : u < s .n) (lv : v < s .n) (o : SoundBut P s) where
+  c : Steady s
+  c = o .steady
+
+  same-route : (a b : ℕ) → route (recompute s u v) a b ≡ route s a b
+  unfolding recompute
+  same-route a b = route-same s (recompute s u v) a b refl (λ w l. refl) (λ w l. refl)
+
+  -- A node's distances stay, unless it is u and its distance to v changed.
+  kept-distance : (a b : ℕ) → (a ≡ u → route s u v .distance ≡ s .distance u v) → recompute s u v .distance a b ≡ s .distance a b
+  kept-distance a b f = go (decides (tells-and (tells-eq a u) (tells-eq b v)))
+    where
+      go : Dec ((a ≡ u) × (b ≡ v)) → recompute s u v .distance a b ≡ s .distance a b
+      go (yes p) = rw (p .0, p .1) (recompute-distance-at s u v ∙ f (p .0))
+      go (no k) = recompute-distance-other s u v a b (λ i j. k (i, j))
+
+  -- A queue of an up link: u sent on it, or its sender's distances stay.
+  mended-carries : (x y : ℕ) → x < s .n → y < s .n → s .link x y ≡ 1 → Carries (s .n) (recompute s u v .distance y) (s .view x y) (recompute s u v .queue y x)
+  mended-carries x y lx ly q = go (ℕ-discrete y u) (ℕ-discrete (route s u v .distance) (s .distance u v))
+    where
+      kept : (y ≡ u → route s u v .distance ≡ s .distance u v) → Carries (s .n) (recompute s u v .distance y) (s .view x y) (recompute s u v .queue y x)
+      kept f = rw (recompute-queue-other s u v y x (λ i k. f i)) (carries-same _ _ _ _ _ _ (λ b l. kept-distance y b f) (λ b l. refl) (c .carries x y lx ly q))
+
+      go : Dec (y ≡ u) → Dec (route s u v .distance ≡ s .distance u v) → Carries (s .n) (recompute s u v .distance y) (s .view x y) (recompute s u v .queue y x)
+      go (yes i) (no f) =
+          let r : s .link x u ≡ 1 = rw i at q in
+          rw (i, recompute-queue-sent s u v x (c .symmetric u x lu lx ∙ r) f)
+          (carries-send _ _ _ _ (record { destination = v; value = route s u v .distance }) _ lv (sym (recompute-distance-at s u v)) (λ b k. recompute-distance-other s u v u b (λ j. k)) (c .carries x u lx lu r))
+      go (yes i) (yes e) = kept (λ z. e)
+      go (no i) e = kept (λ z. absurd (i z))
+
+  pub recompute-mends : SoundBut (λ a b. P a b × (a ≡ u → b ≢ v)) (recompute s u v)
+  unfolding recompute
+  recompute-mends = record {
+    steady = record {
+      bits = c .bits;
+      symmetric = c .symmetric;
+      diagonal = c .diagonal;
+      views = c .views;
+      down-views = c .down-views;
+      down-queues = λ x y lx ly f. recompute-queue-other s u v y x (λ i q. absurd (f (c .symmetric x y lx ly ∙ ap (λ (z : ℕ). s .link z x) i ∙ q))) ∙ c .down-queues x y lx ly f;
+      carries = mended-carries;
+    };
+    distances = λ a b la lb f. distance a b la lb f (decides (tells-and (tells-eq a u) (tells-eq b v))) ∙ sym (ap (λ (r : Route). r .distance) (same-route a b));
+    downstreams = λ a b la lb f. downstream a b la lb f (decides (tells-and (tells-eq a u) (tells-eq b v))) ∙ sym (ap (λ (r : Route). r .downstream) (same-route a b));
+  }
+    where
+      distance : (a b : ℕ) → a < s .n → b < s .n → (P a b × (a ≡ u → b ≢ v) → ⊥) → Dec ((a ≡ u) × (b ≡ v)) → recompute s u v .distance a b ≡ route s a b .distance
+      distance a b la lb f (yes p) = rw (p .0, p .1) (recompute-distance-at s u v)
+      distance a b la lb f (no k) = recompute-distance-other s u v a b (λ i j. k (i, j)) ∙ o .distances a b la lb (λ p. f (p, λ i j. k (i, j)))
+
+      downstream : (a b : ℕ) → a < s .n → b < s .n → (P a b × (a ≡ u → b ≢ v) → ⊥) → Dec ((a ≡ u) × (b ≡ v)) → recompute s u v .downstream a b ≡ route s a b .downstream
+      downstream a b la lb f (yes p) = rw (p .0, p .1) (recompute-downstream-at s u v)
+      downstream a b la lb f (no k) = recompute-downstream-other s u v a b (λ i j. k (i, j)) ∙ o .downstreams a b la lb (λ p. f (p, λ i j. k (i, j)))
+
+-- ---- u recomputes every destination, and all its pairs are mended
+
+-- More pairs may be called stale.
+but-more : (P Q : ℕ → ℕ → Type 0) (s : State) → ((a b : ℕ) → b < s .n → P a b → Q a b) → SoundBut P s → SoundBut Q s
+but-more P Q s f o = record {
+  steady = o .steady;
+  distances = λ u v lu lv k. o .distances u v lu lv (λ p. k (f u v lv p));
+  downstreams = λ u v lu lv k. o .downstreams u v lu lv (λ p. k (f u v lv p));
+}
+
+recompute-loop-n : (s : State) (u k : ℕ) → loop k (λ v t. recompute t u v) s .n ≡ s .n
+unfolding loop recompute
+recompute-loop-n s u zero = refl
+recompute-loop-n s u (suc k) = recompute-loop-n s u k
+
+recompute-loop-mends : (P : ℕ → ℕ → Type 0) (s : State) (u k : ℕ) → u < s .n → k ≤ s .n → SoundBut P s → SoundBut (λ a b. P a b × (a ≡ u → k ≤ b)) (loop k (λ v t. recompute t u v) s)
+unfolding loop
+recompute-loop-mends P s u zero lu lk o = but-more _ _ s (λ a b l p. (p, λ i. omega arith)) o
+recompute-loop-mends P s u (suc k) lu lk o =
+    let n = recompute-loop-n s u k in
+    but-more _ _ _ (λ a b l p. (p .0 .0, λ i. omega (arith, p .0 .1 i, p .1 i)))
+    (recompute-mends (λ a b. P a b × (a ≡ u → k ≤ b)) (loop k (λ v t. recompute t u v) s) u k (omega arith) (omega arith) (recompute-loop-mends P s u k lu (omega arith) o))
+
+pub recompute-all-n : (s : State) (u : ℕ) → recomputeAll s u .n ≡ s .n
+unfolding recomputeAll
+recompute-all-n s u = recompute-loop-n s u (s .n)
+
+pub recompute-all-mends : (P : ℕ → ℕ → Type 0) (s : State) (u : ℕ) → u < s .n → SoundBut P s → SoundBut (λ a b. P a b × (a ≢ u)) (recomputeAll s u)
+unfolding recomputeAll
+recompute-all-mends P s u lu o =
+    let n = recompute-loop-n s u (s .n) in
+    but-more _ _ _ (λ a b l p. (p .0, λ i. omega (arith, p .1 i))) (recompute-loop-mends P s u (s .n) lu (le-refl _) o)
