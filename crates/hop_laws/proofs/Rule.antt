@@ -16,6 +16,10 @@ use Rattle.hop_laws.proofs.Words.{first-passes, first-before, first-sam
 
 -- ---- the distance
 
+-- d is n, or 1 + the view of v over an up link of u to one of the first k nodes.
+abbrev pub Attained : State → ℕ → ℕ → ℕ → ℕ → Type 0
+Attained s u v k d = (d ≡ s .n) ⊎ ((w : ℕ) × (w < k) × (s .link u w ≡ 1) × (d ≡ suc (s .view u w v)))
+
 module _ (s : State) (u v : ℕ) where
   least-linked : (w : ℕ) → s .link u w ≡ 1 → least s u v (suc w) ≡ min (suc (s .view u w v)) (least s u v w)
   unfolding least
@@ -46,20 +50,20 @@ module _ (s : State) (u v : ℕ) where
       go (no i) (no c) h = omega (arith, least-unlinked k c, h (omega arith))
 
   -- and one of these.
-  pub least-attained : (k : ℕ) → (least s u v k ≡ s .n) ⊎ ((w : ℕ) × (w < k) × (s .link u w ≡ 1) × (least s u v k ≡ suc (s .view u w v)))
+  pub least-attained : (k : ℕ) → Attained s u v k (least s u v k)
   unfolding least
   least-attained zero = inl refl
   least-attained (suc k) = go (ℕ-discrete (s .link u k) 1) (decLt (suc (s .view u k v)) (least s u v k)) (least-attained k)
     where
       earlier : least s u v (suc k) ≡ least s u v k
-          → (least s u v k ≡ s .n) ⊎ ((w : ℕ) × (w < k) × (s .link u w ≡ 1) × (least s u v k ≡ suc (s .view u w v)))
-          → (least s u v (suc k) ≡ s .n) ⊎ ((w : ℕ) × (w < suc k) × (s .link u w ≡ 1) × (least s u v (suc k) ≡ suc (s .view u w v)))
+          → Attained s u v k (least s u v k)
+          → Attained s u v (suc k) (least s u v (suc k))
       earlier i (inl e) = inl (i ∙ e)
       earlier i (inr (w, l, q, e)) = inr (w, omega arith, q, i ∙ e)
 
       go : Dec (s .link u k ≡ 1) → Dec (suc (s .view u k v) < least s u v k)
-          → (least s u v k ≡ s .n) ⊎ ((w : ℕ) × (w < k) × (s .link u w ≡ 1) × (least s u v k ≡ suc (s .view u w v)))
-          → (least s u v (suc k) ≡ s .n) ⊎ ((w : ℕ) × (w < suc k) × (s .link u w ≡ 1) × (least s u v (suc k) ≡ suc (s .view u w v)))
+          → Attained s u v k (least s u v k)
+          → Attained s u v (suc k) (least s u v (suc k))
       go (yes c) (yes l) h = inr (k, le-refl _, c, omega (arith, least-linked k c))
       go (yes c) (no l) h = earlier (omega (arith, least-linked k c)) h
       go (no c) l h = earlier (least-unlinked k c) h
@@ -68,7 +72,7 @@ module _ (s : State) (u v : ℕ) where
   pub least-above : (k d : ℕ) → d ≤ s .n → ((w : ℕ) → w < k → s .link u w ≡ 1 → d ≤ suc (s .view u w v)) → d ≤ least s u v k
   least-above k d l h = go (least-attained k)
     where
-      go : (least s u v k ≡ s .n) ⊎ ((w : ℕ) × (w < k) × (s .link u w ≡ 1) × (least s u v k ≡ suc (s .view u w v))) → d ≤ least s u v k
+      go : Attained s u v k (least s u v k) → d ≤ least s u v k
       go (inl e) = omega arith
       go (inr (w, lw, q, e)) = rw e (h w lw q)
 
@@ -135,7 +139,7 @@ nearest-gives s u v d e l = rw (choose-else (tells-eq d (s .n)) 255 x (λ i. ome
     not-past w o (yes b) = absurd (tells-not-so (tells-offer s u v d w) (first-before (s .n) p w b) o)
     not-past w o (no b) = omega arith
 
-    found : (least s u v (s .n) ≡ s .n) ⊎ ((w : ℕ) × (w < s .n) × (s .link u w ≡ 1) × (least s u v (s .n) ≡ suc (s .view u w v))) → Gives s u v d x
+    found : Attained s u v (s .n) (least s u v (s .n)) → Gives s u v d x
     found (inl i) = absurd (omega arith)
     found (inr (w, lw, q, i)) =
         let b : x < s .n = omega (arith, not-past w (q, sym i ∙ sym e) (decLt w x)) in

@@ -1,16 +1,18 @@
--- What a delivery from w to u leaves as it is: every cell but u's view of the head's destination from w, u's table rows for it, the queue that it came from and those that u sends on. Assumes nothing.
-use mathlib.Core.Path.{_≡_, refl, ap, _∙_}
+-- What a delivery from w to u changes: u's view of the head's destination from w, u's table rows for it, the queue that it came from and those that u sends on; every other cell stays. Assumes nothing.
+use mathlib.Core.Path.{_≡_, refl, sym, ap, _∙_}
 use mathlib.Core.Logic.{_≢_}
 use mathlib.Core.List.{List, [], _∷_}
 use Prim.Native.Nat.{ℕ}
 use Rattle.hop_rule.specs.State.{State, Entry}
-use Rattle.hop_rule.specs.Rule.{recompute, hear, deliver}
-use Rattle.hop_laws.proofs.Rule.{recompute-distance-other, recompute-downstream-other, recompute-queue-other, hear-view-other, hear-queue-other, deliver-head, deliver-none}
+use Rattle.hop_rule.specs.Rule.{route, send, recompute, hear, deliver}
+use Rattle.hop_laws.proofs.Rule.{recompute-distance-at, recompute-distance-other, recompute-downstream-other, recompute-queue-sent, recompute-queue-other, hear-view-at, hear-view-other, hear-queue-at, hear-queue-other, deliver-head, deliver-none}
 
 -- v is the destination of the entry at the head.
 abbrev pub Heads : ℕ → List Entry → Type 0
 Heads v [] = ⊥
 Heads v (head ∷ rest) = v ≡ head .destination
+
+-- ---- what stays
 
 module _ (s : State) (w u : ℕ) where
   -- A delivery hears the head and recomputes its destination, or does nothing: what both leave stays.
@@ -45,3 +47,31 @@ module _ (s : State) (w u : ℕ) where
   unfolding hear
   deliver-queue-other a b f g = stays (λ t. t .queue a b) (λ head rest e.
       recompute-queue-other (hear s w u head rest) u (head .destination) a b (λ i q. absurd (g i q)) ∙ hear-queue-other s w u head rest a b f)
+
+-- ---- what changes, where an entry waits and w is not u
+
+module _ (s : State) (w u : ℕ) (head : Entry) (rest : List Entry) (waited : s .queue w u ≡ head ∷ rest) where
+  is : deliver s w u ≡ recompute (hear s w u head rest) u (head .destination)
+  is = deliver-head s w u head rest waited
+
+  pub deliver-view-learnt : deliver s w u .view u w (head .destination) ≡ head .value
+  unfolding recompute
+  deliver-view-learnt = rw is (hear-view-at s w u head rest)
+
+  distance-at : deliver s w u .distance u (head .destination) ≡ route (hear s w u head rest) u (head .destination) .distance
+  distance-at = rw is (recompute-distance-at (hear s w u head rest) u (head .destination))
+
+  pub deliver-queue-left : w ≢ u → deliver s w u .queue w u ≡ rest
+  deliver-queue-left f = rw is (recompute-queue-other (hear s w u head rest) u (head .destination) w u (λ i. absurd (f i)) ∙ hear-queue-at s w u head rest)
+
+  pub deliver-queue-sent : w ≢ u → (x : ℕ) → s .link u x ≡ 1 → deliver s w u .distance u (head .destination) ≢ s .distance u (head .destination)
+      → deliver s w u .queue u x ≡ send (record { destination = head .destination; value = deliver s w u .distance u (head .destination) }) (s .queue u x)
+  unfolding hear
+  deliver-queue-sent f x q k =
+      rw (distance-at, is) (recompute-queue-sent (hear s w u head rest) u (head .destination) x q (λ i. k (distance-at ∙ i))
+      ∙ ap (send _) (hear-queue-other s w u head rest u x (λ i. absurd (f (sym i)))))
+
+  pub deliver-queue-quiet : w ≢ u → (x : ℕ) → deliver s w u .distance u (head .destination) ≡ s .distance u (head .destination) → deliver s w u .queue u x ≡ s .queue u x
+  unfolding hear
+  deliver-queue-quiet f x k =
+      rw is (recompute-queue-other (hear s w u head rest) u (head .destination) u x (λ i q. sym distance-at ∙ k) ∙ hear-queue-other s w u head rest u x (λ i. absurd (f (sym i))))

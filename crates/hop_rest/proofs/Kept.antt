@@ -9,7 +9,7 @@ use native.Mathlib.Omega.{arith}
 use lib.ListN.{length}
 use Rattle.hop_rule.specs.State.{State, Entry, Route}
 use Rattle.hop_rule.specs.Rule.{route, recompute, hear, deliver, linkUp, cut, recomputeAll, linkDown, pass, passes}
-use Rattle.hop_rule.specs.Sound.{Sound}
+use Rattle.hop_rule.specs.Sound.{Each, Sound}
 use Rattle.hop_laws.proofs.Tests.{tells-eq, tells-and, decides}
 use Rattle.hop_laws.proofs.Words.{loop-keeps}
 use Rattle.hop_laws.proofs.Rule.{route-same, route-alike, route-distance-most, hear-view-at, hear-view-other, hear-queue-at, hear-queue-other, deliver-head, deliver-none, Between, tells-between, between-back, up-link-at, up-link-other, up-queue-at, up-queue-other, cut-link-at, cut-link-other, cut-view-at, cut-view-other, cut-queue-at, cut-queue-other}
@@ -25,6 +25,10 @@ waiting-linked s w u o lw lu head rest e = go (ℕ-discrete (s .link u w) 1)
     go : Dec (s .link u w ≡ 1) → s .link u w ≡ 1
     go (yes q) = q
     go (no f) = absurd (omega (arith, ap length (sym (o .down-queues u w lu lw f) ∙ e)))
+
+-- Only destinations below n wait.
+pub waiting-below : (s : State) (w u : ℕ) → Sound s → w < s .n → u < s .n → (head : Entry) (rest : List Entry) → s .queue w u ≡ head ∷ rest → head .destination < s .n
+waiting-below s w u o lw lu head rest e = subst (Each (λ f. f .destination < s .n)) e (o .below u w lu lw (waiting-linked s w u o lw lu head rest e)) .0
 
 module _ (s : State) (w u : ℕ) (head : Entry) (rest : List Entry) (o : Sound s) (lw : w < s .n) (lu : u < s .n) (linked : s .link u w ≡ 1) (waits : s .queue w u ≡ head ∷ rest) where
   c : Steady s

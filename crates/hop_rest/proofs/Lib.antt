@@ -1,3 +1,17 @@
 pub mod Frame
 pub mod Mended
 pub mod Kept
+pub mod Walks
+pub mod Right
+pub mod Rest
+pub mod Downstreams
+pub mod Delivered
+pub mod Runs
+pub mod Passes
+pub mod Counts
+pub mod Ascending
+pub mod Settling
+pub mod Run
+pub mod Top
+pub mod Attained
+pub mod Same

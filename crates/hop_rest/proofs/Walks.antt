@@ -1,0 +1,48 @@
+-- Laws of walks: how one begins, that a pair has one hop count, and that whatever falls by at most one at each link is below n where a walk leads. Assumes nothing.
+use mathlib.Core.Path.{_≡_, refl, sym, _∙_}
+use mathlib.Core.Logic.{_⊎_, inl, inr}
+use Prim.Native.Nat.{ℕ, suc, _≤_, _<_}
+use native.Mathlib.Decide.{ℕ-discrete, decLt}
+use native.Mathlib.Omega.{arith}
+use Rattle.hop_rule.specs.State.{State}
+use Rattle.hop_laws.proofs.Queues.{cover-most}
+use Rattle.hop_rest.specs.Walks.{Walk, here, hop, HopCount, joined, apart}
+
+-- A walk stays, or begins with an up link.
+pub record Begins (s : State) (u v d : ℕ) : Type 0 where
+  pub next : ℕ
+  pub left : ℕ
+  pub below : next < s .n
+  pub linked : s .link u next ≡ 1
+  pub walk : Walk s next v left
+  pub one-more : d ≡ suc left
+
+pub walk-begins : {s : State} {u v d : ℕ} → Walk s u v d → (u ≡ v) ⊎ Begins s u v d
+walk-begins here = inl refl
+walk-begins (hop {w = w} {d = d} lu lw q p) = inr (record { next = w; left = d; below = lw; linked = q; walk = p; one-more = refl })
+
+-- A pair has one hop count.
+pub hop-count-same : {s : State} {u v d e : ℕ} → HopCount s u v d → HopCount s u v e → d ≡ e
+hop-count-same {d = d} {e = e} (joined b p l) (joined b′ p′ l′) = omega (arith, l e p′, l′ d p)
+hop-count-same {d = d} (joined b p l) (apart i f) = absurd (f d p)
+hop-count-same {e = e} (apart i f) (joined b p l) = absurd (f e p)
+hop-count-same (apart i f) (apart j g) = i ∙ sym j
+
+-- Levels: 0 at v, and at most one more over each up link.
+module _ (s : State) (v : ℕ) (lv : v < s .n) (level : ℕ → ℕ) (ends : level v ≡ 0) (falls : (x y : ℕ) → x < s .n → y < s .n → s .link x y ≡ 1 → level x ≤ suc (level y)) where
+  -- A walk to v meets every level up to its first,
+  met : {u d : ℕ} → Walk s u v d → (j : ℕ) → j ≤ level u → (x : ℕ) × (x < s .n) × (level x ≡ j)
+  met here j l = (v, lv, omega arith)
+  met (hop {u = u} {w = w} lu lw q p) j l = go (ℕ-discrete j (level u)) (λ k. met p j k)
+    where
+      go : Dec (j ≡ level u) → (j ≤ level w → (x : ℕ) × (x < s .n) × (level x ≡ j)) → (x : ℕ) × (x < s .n) × (level x ≡ j)
+      go (yes e) h = (u, lu, sym e)
+      go (no f) h = h (omega (arith, falls u w lu lw q))
+
+  -- so that this is below n: there are no n + 1 nodes.
+  pub walk-level : {u d : ℕ} → Walk s u v d → level u < s .n
+  walk-level {u} p = go (decLt (level u) (s .n))
+    where
+      go : Dec (level u < s .n) → level u < s .n
+      go (yes l) = l
+      go (no f) = absurd (omega (arith, cover-most (s .n) (suc (s .n)) level (λ j l. met p j (omega arith))))

@@ -1,0 +1,3 @@
+pub mod Walks
+pub mod Orders
+pub mod Rest
