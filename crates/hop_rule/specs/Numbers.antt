@@ -10,7 +10,7 @@ use Rattle.hop_rule.specs.Rule.{least, nearest, route, send, recompute, 
 use Rattle.hop_rule.specs.Stored.{size, grid, cube, destinationAt, valueAt, block, stored, start, flat, deep, read}
 use Rattle.hop_rule.specs.Sound.{waits, differ, each, pairs, triples, isSound, isSoundBytes}
 use Rattle.hop_rule.specs.Records.{words, recordOf, statusRecord, written}
-use Rattle.hop_rule.specs.Calls.{Call, make, up, down, deliver, run, distance, downstream, totalQueued, status, judge, refusals, Outcome, answered, done, outcome}
+use Rattle.hop_rule.specs.Calls.{Call, make, up, down, deliver, pass, run, distance, downstream, queueLength, totalQueued, status, judge, refusals, Outcome, answered, done, outcome}
 
 -- What is looked at after the last call: its number and other answers, the bytes, the output, or the entries of a queue.
 pub data Look : Type 0 where
@@ -84,7 +84,15 @@ table =
     ∷ sees (up 2 2 ∷ []) answers (4 ∷ 0 ∷ 0 ∷ 0 ∷ [])
     -- P8 status of node 1
     ∷ sees (status 1 ∷ []) output (12 ∷ 0 ∷ 1 ∷ 0 ∷ 1 ∷ 0 ∷ 2 ∷ 0 ∷ 2 ∷ 0 ∷ 0 ∷ 0 ∷ 4 ∷ 0 ∷ [])
-    -- Our own: the same after P4, where what waits for node 1 and what waits from it differ, and it reaches the other
+    -- Our own: a pass delivers the 4 that waited, and then 1 waits; a queue's length; what is refused between two nodes
+    ∷ sees (pass ∷ []) answers (0 ∷ 0 ∷ 0 ∷ 4 ∷ [])
+    ∷ sees (pass ∷ totalQueued ∷ []) answers (0 ∷ 1 ∷ 0 ∷ 0 ∷ [])
+    ∷ sees (deliver 0 1 ∷ queueLength 0 1 ∷ []) answers (0 ∷ 1 ∷ 0 ∷ 0 ∷ [])
+    ∷ sees (queueLength 1 1 ∷ []) answers (5 ∷ 0 ∷ 0 ∷ 0 ∷ [])
+    ∷ sees (down 0 1 ∷ queueLength 0 1 ∷ []) answers (0 ∷ 0 ∷ 0 ∷ 0 ∷ [])
+    ∷ sees (down 0 1 ∷ deliver 0 1 ∷ []) answers (7 ∷ 0 ∷ 0 ∷ 0 ∷ [])
+    ∷ sees (run 255 ∷ deliver 0 1 ∷ []) answers (8 ∷ 0 ∷ 0 ∷ 0 ∷ [])
+    -- Our own: the same as P8 after P4, where what waits for node 1 and what waits from it differ, and it reaches the other
     ∷ sees (deliver 0 1 ∷ status 1 ∷ []) output (12 ∷ 0 ∷ 1 ∷ 0 ∷ 1 ∷ 0 ∷ 1 ∷ 0 ∷ 2 ∷ 0 ∷ 1 ∷ 0 ∷ 3 ∷ 0 ∷ [])
     ∷ [])
     -- P9 line 0-1-2, n = 3, at rest, down 1 2: 1 waits; rest after 2 deliveries; 0 has distance 3 to 2
