@@ -1,1 +1,116 @@
 // One byte of a stored state by name: where it stands, reading it, writing it.
+
+use hop_rule::Table;
+ghost use mathlib.Core.Path.{_≡_};
+ghost use Prim.Native.Nat.{_+_, _*_, _<_, _≤_};
+ghost use Rattle.hop_rule.specs.Stored as stored;
+ghost use Rattle.hop_cells.specs.Cells as cell;
+ghost use Rattle.hop_cells.specs.Cells.{Room, cells};
+
+pub fn wide(x: u8) -> usize
+    ensures { λ r. ⌜ (r ≡ x) × (r < 256) ⌝ }
+{
+    x as usize
+}
+
+fn square(n: usize) -> usize
+    requires { ⌜ n ≤ 40 ⌝ }
+    ensures { λ r. ⌜ (r ≡ n * n) × (r ≤ 1600) ⌝ }
+{
+    n * n
+}
+
+fn cube(n: usize) -> usize
+    requires { ⌜ n ≤ 40 ⌝ }
+    ensures { λ r. ⌜ (r ≡ n * n * n) × (r ≤ 64000) ⌝ }
+{
+    n * n * n
+}
+
+// The bytes of a state of n nodes.
+pub fn size(n: usize) -> usize
+    requires { ⌜ n ≤ 40 ⌝ }
+    ensures { λ r. ⌜ r ≡ stored.size n ⌝ }
+{
+    1 + 4 * square(n) + 3 * cube(n)
+}
+
+// Where a block starts.
+pub fn start(n: usize, t: Table) -> usize
+    requires { ⌜ n ≤ 40 ⌝ }
+    ensures { λ r. ⌜ r ≡ stored.start n t ⌝ }
+{
+    let q = square(n);
+    let c = cube(n);
+    match t {
+        Table::Links => 1,
+        Table::Distances => 1 + q,
+        Table::Downstreams => 1 + 2 * q,
+        Table::Views => 1 + 3 * q,
+        Table::Lengths => 1 + 3 * q + c,
+        Table::Destinations => 1 + 4 * q + c,
+        Table::Values => 1 + 4 * q + 2 * c,
+    }
+}
+
+// The index of a row and a column, and of two rows and a column.
+pub fn pair(n: usize, a: usize, b: usize) -> usize
+    requires { ⌜ (n ≤ 40) × (a < n) × (b < n) ⌝ }
+    ensures { λ r. ⌜ (r ≡ a * n + b) × (r < n * n) ⌝ }
+{
+    a * n + b
+}
+
+pub fn triple(n: usize, a: usize, b: usize, c: usize) -> usize
+    requires { ⌜ (n ≤ 40) × (a < n) × (b < n) × (c < n) ⌝ }
+    ensures { λ r. ⌜ (r ≡ (a * n + b) * n + c) × (r < n * n * n) ⌝ }
+{
+    pair(n, a, b) * n + c
+}
+
+// Byte i of a block.
+pub fn get(s: &[u8], n: usize, t: Table, i: usize) -> u8
+    requires { ⌜ Room n (now s) × (i < cells n t) ⌝ }
+    ensures { λ r. ⌜ r ≡ cell.get n t i (now (s .entry)) ⌝ }
+{
+    let at = start(n, t) + i;
+    s[at]
+}
+
+fn put(s: &mut [u8], n: usize, t: Table, i: usize, x: u8)
+    requires { ⌜ Room n (now s) × (i < cells n t) ⌝ }
+    ensures { λ r. ⌜ now (s .exit) ≡ cell.put n t i x (now (s .entry)) ⌝ }
+{
+    let at = start(n, t) + i;
+    s[at] = x;
+}
+
+// The byte at a row and a column of a block of n².
+pub fn get2(s: &[u8], n: usize, t: Table, a: usize, b: usize) -> usize
+    requires { ⌜ Room n (now s) × (a < n) × (b < n) × (cells n t ≡ n * n) ⌝ }
+    ensures { λ r. ⌜ (r ≡ cell.get2 n t a b (now (s .entry))) × (r < 256) ⌝ }
+{
+    wide(get(s, n, t, pair(n, a, b)))
+}
+
+pub fn put2(s: &mut [u8], n: usize, t: Table, a: usize, b: usize, x: u8)
+    requires { ⌜ Room n (now s) × (a < n) × (b < n) × (cells n t ≡ n * n) ⌝ }
+    ensures { λ r. ⌜ now (s .exit) ≡ cell.put2 n t a b x (now (s .entry)) ⌝ }
+{
+    put(s, n, t, pair(n, a, b), x);
+}
+
+// And of a block of n³.
+pub fn get3(s: &[u8], n: usize, t: Table, a: usize, b: usize, c: usize) -> usize
+    requires { ⌜ Room n (now s) × (a < n) × (b < n) × (c < n) × (cells n t ≡ n * n * n) ⌝ }
+    ensures { λ r. ⌜ (r ≡ cell.get3 n t a b c (now (s .entry))) × (r < 256) ⌝ }
+{
+    wide(get(s, n, t, triple(n, a, b, c)))
+}
+
+pub fn put3(s: &mut [u8], n: usize, t: Table, a: usize, b: usize, c: usize, x: u8)
+    requires { ⌜ Room n (now s) × (a < n) × (b < n) × (c < n) × (cells n t ≡ n * n * n) ⌝ }
+    ensures { λ r. ⌜ now (s .exit) ≡ cell.put3 n t a b c x (now (s .entry)) ⌝ }
+{
+    put(s, n, t, triple(n, a, b, c), x);
+}

@@ -1,0 +1,15 @@
+pub mod Choice
+pub mod Filled
+pub mod Rows
+pub mod Queued
+pub mod Carries
+pub mod Entries
+pub mod Send
+pub mod Best
+pub mod Recompute
+pub mod Deliver
+pub mod Links
+pub mod Runs
+pub mod Fresh
+pub mod Door
+pub mod Top

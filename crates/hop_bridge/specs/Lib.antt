@@ -1,0 +1,2 @@
+pub mod Carries
+pub mod Parts

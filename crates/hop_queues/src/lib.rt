@@ -1,0 +1,128 @@
+// One queue of a stored state: sending into it, taking its head, filling and emptying it.
+
+use hop_cells::get2;
+use hop_cells::get3;
+use hop_cells::put2;
+use hop_cells::put3;
+use hop_rule::Table;
+ghost use mathlib.Core.Path.{_≡_};
+ghost use Prim.Native.Nat.{_+_, _*_, _<_, _≤_};
+ghost use Rattle.hop_cells.specs.Cells.{Room, cells};
+ghost use Rattle.hop_queues.specs.Queues as queue;
+
+// Every place of a row of a block of n³ becomes x.
+pub fn fill(s: &mut [u8], n: usize, t: Table, a: usize, b: usize, x: u8)
+    requires { ⌜ Room n (now s) × (a < n) × (b < n) × (cells n t ≡ n * n * n) ⌝ }
+    ensures { λ r. ⌜ now (s .exit) ≡ queue.fill n t a b x (now (s .entry)) ⌝ }
+{
+    for c in 0..n {
+        put3(s, n, t, a, b, c, x);
+    }
+}
+
+// The entries that the queue from w to u holds.
+pub fn held(s: &[u8], n: usize, w: usize, u: usize) -> usize
+    requires { ⌜ Room n (now s) × (w < n) × (u < n) ⌝ }
+    ensures { λ r. ⌜ (r ≡ queue.held n w u (now (s .entry))) × (r ≤ n) ⌝ }
+{
+    let m = get2(s, n, Table::Lengths, w, u);
+    if m < n { m } else { n }
+}
+
+// The first of the places below m at which v waits, or m.
+fn waits_at(s: &[u8], n: usize, w: usize, u: usize, v: usize, m: usize) -> usize
+    requires { ⌜ Room n (now s) × (w < n) × (u < n) × (m ≤ n) ⌝ }
+    ensures { λ r. ⌜ r ≡ queue.waitsAt n w u v m (now (s .entry)) ⌝ }
+{
+    for p in 0..m {
+        if get3(s, n, Table::Destinations, w, u, p) == v {
+            return p;
+        }
+    }
+    m
+}
+
+// The entry (v, d) joins the tail, which is place p.
+fn join(s: &mut [u8], n: usize, w: usize, u: usize, v: usize, d: u8, p: usize)
+    requires { ⌜ Room n (now s) × (w < n) × (u < n) × (v < n) × (p < n) ⌝ }
+    ensures { λ r. ⌜ now (s .exit) ≡ queue.join n w u v d p (now (s .entry)) ⌝ }
+{
+    put3(s, n, Table::Destinations, w, u, p, v as u8);
+    put3(s, n, Table::Values, w, u, p, d);
+    put2(s, n, Table::Lengths, w, u, (p + 1) as u8);
+}
+
+// The value is replaced where v waits, and otherwise the entry joins the tail.
+pub fn send(s: &mut [u8], n: usize, w: usize, u: usize, v: usize, d: u8)
+    requires { ⌜ Room n (now s) × (w < n) × (u < n) × (v < n) ⌝ }
+    ensures { λ r. ⌜ now (s .exit) ≡ queue.send n w u v d (now (s .entry)) ⌝ }
+{
+    let m = held(s, n, w, u);
+    let p = waits_at(s, n, w, u, v, m);
+    if p < m {
+        put3(s, n, Table::Values, w, u, p, d);
+    } else if m < n {
+        join(s, n, w, u, v, d, m);
+    }
+}
+
+// Place p of a row takes what the next place holds.
+fn shift(s: &mut [u8], n: usize, t: Table, w: usize, u: usize, p: usize)
+    requires { ⌜ Room n (now s) × (w < n) × (u < n) × (p + 1 < n) × (cells n t ≡ n * n * n) ⌝ }
+    ensures { λ r. ⌜ now (s .exit) ≡ queue.shift n t w u p (now (s .entry)) ⌝ }
+{
+    let x = get3(s, n, t, w, u, p + 1);
+    put3(s, n, t, w, u, p, x as u8);
+}
+
+// The head of a row leaves, and the m entries behind it move up.
+fn move_up(s: &mut [u8], n: usize, t: Table, w: usize, u: usize, m: usize)
+    requires { ⌜ Room n (now s) × (w < n) × (u < n) × (m < n) × (cells n t ≡ n * n * n) ⌝ }
+    ensures { λ r. ⌜ now (s .exit) ≡ queue.moveUp n t w u m (now (s .entry)) ⌝ }
+{
+    for p in 0..m {
+        shift(s, n, t, w, u, p);
+    }
+    put3(s, n, t, w, u, m, 0);
+}
+
+// The head of the queue leaves, and m entries stay.
+pub fn take_head(s: &mut [u8], n: usize, w: usize, u: usize, m: usize)
+    requires { ⌜ Room n (now s) × (w < n) × (u < n) × (m < n) ⌝ }
+    ensures { λ r. ⌜ now (s .exit) ≡ queue.takeHead n w u m (now (s .entry)) ⌝ }
+{
+    move_up(s, n, Table::Destinations, w, u, m);
+    move_up(s, n, Table::Values, w, u, m);
+    put2(s, n, Table::Lengths, w, u, m as u8);
+}
+
+// Destination v stands at place v, with the sender's distance.
+fn offer(s: &mut [u8], n: usize, w: usize, u: usize, v: usize)
+    requires { ⌜ Room n (now s) × (w < n) × (u < n) × (v < n) ⌝ }
+    ensures { λ r. ⌜ now (s .exit) ≡ queue.offer n w u v (now (s .entry)) ⌝ }
+{
+    let d = get2(s, n, Table::Distances, w, v);
+    put3(s, n, Table::Destinations, w, u, v, v as u8);
+    put3(s, n, Table::Values, w, u, v, d as u8);
+}
+
+// All n destinations wait, ascending, with the sender's distances.
+pub fn offer_all(s: &mut [u8], n: usize, w: usize, u: usize)
+    requires { ⌜ Room n (now s) × (w < n) × (u < n) ⌝ }
+    ensures { λ r. ⌜ now (s .exit) ≡ queue.offerAll n w u (now (s .entry)) ⌝ }
+{
+    for v in 0..n {
+        offer(s, n, w, u, v);
+    }
+    put2(s, n, Table::Lengths, w, u, n as u8);
+}
+
+// Nothing waits.
+pub fn empty(s: &mut [u8], n: usize, w: usize, u: usize)
+    requires { ⌜ Room n (now s) × (w < n) × (u < n) ⌝ }
+    ensures { λ r. ⌜ now (s .exit) ≡ queue.empty n w u (now (s .entry)) ⌝ }
+{
+    fill(s, n, Table::Destinations, w, u, 0);
+    fill(s, n, Table::Values, w, u, 0);
+    put2(s, n, Table::Lengths, w, u, 0);
+}

@@ -1,0 +1,149 @@
+// Passes and runs on the bytes of a stored state, and what is counted in it.
+
+use hop_cells::get;
+use hop_cells::get2;
+use hop_cells::pair;
+use hop_cells::wide;
+use hop_rule::Table;
+use hop_steps::deliver;
+ghost use mathlib.Core.Path.{_≡_};
+ghost use Prim.Native.Nat.{ℕ, _*_, _<_, _≤_};
+ghost use lib.ListN.{getD};
+ghost use Rattle.hop_rule.specs.declared.Table.the-variants.{Lengths};
+ghost use Rattle.hop_cells.specs.Cells as cell;
+ghost use Rattle.hop_cells.specs.Cells.{Room};
+ghost use Rattle.hop_runs.specs.Runs as runs;
+
+// What a run did.
+pub struct Ran {
+    pub passes: u32,
+    pub deliveries: u32,
+}
+
+// k deliveries from w to u.
+fn drain(s: &mut [u8], n: usize, w: usize, u: usize, k: usize)
+    requires { ⌜ Room n (now s) × (w < n) × (u < n) ⌝ }
+    ensures { λ r. ⌜ now (s .exit) ≡ runs.drain n w u k (now (s .entry)) ⌝ }
+{
+    for i in 0..k {
+        deliver(s, n, w, u);
+    }
+}
+
+// The lengths of all queues, by sender and receiver.
+fn lengths(s: &[u8], n: usize) -> [u8; 1600]
+    requires { ⌜ Room n (now s) ⌝ }
+    ensures { λ r. ⌜ ((i : ℕ) → i < n * n → getD r i 0 ≡ cell.get n Lengths i (now (s .entry))) ⌝ }
+{
+    let mut noted = [0u8; 1600];
+    for i in 0..n * n {
+        noted[i] = get(s, n, Table::Lengths, i);
+    }
+    noted
+}
+
+// The queues of sender w, ascending by receiver; each gives up as many entries as are noted for it.
+fn pass_from(s: &mut [u8], n: usize, w: usize, noted: &[u8; 1600])
+    requires { ⌜ Room n (now s) × (w < n) ⌝ }
+    ensures { λ r. ⌜ now (s .exit) ≡ runs.passBy n (λ (i : ℕ). getD (now (noted .entry)) i 0) w (now (s .entry)) ⌝ }
+{
+    for u in 0..n {
+        let i = pair(n, w, u);
+        drain(s, n, w, u, wide(noted[i]));
+    }
+}
+
+// The senders, ascending, by the lengths at the start.
+pub fn pass(s: &mut [u8], n: usize)
+    requires { ⌜ Room n (now s) ⌝ }
+    ensures { λ r. ⌜ now (s .exit) ≡ runs.pass n (now (s .entry)) ⌝ }
+{
+    let noted = lengths(s, n);
+    for w in 0..n {
+        pass_from(s, n, w, &noted);
+    }
+}
+
+// The entries that wait for node u.
+pub fn waiting_for(s: &[u8], n: usize, u: usize) -> usize
+    requires { ⌜ Room n (now s) × (u < n) ⌝ }
+    ensures { λ r. ⌜ (r ≡ runs.waitingFor n u (now (s .entry))) × (r ≤ 10200) ⌝ }
+{
+    let mut sum = 0;
+    for w in 0..n {
+        sum += get2(s, n, Table::Lengths, w, u);
+    }
+    sum
+}
+
+// And from it.
+pub fn waiting_from(s: &[u8], n: usize, u: usize) -> usize
+    requires { ⌜ Room n (now s) × (u < n) ⌝ }
+    ensures { λ r. ⌜ (r ≡ runs.waitingFrom n u (now (s .entry))) × (r ≤ 10200) ⌝ }
+{
+    let mut sum = 0;
+    for x in 0..n {
+        sum += get2(s, n, Table::Lengths, u, x);
+    }
+    sum
+}
+
+// And in the whole state.
+pub fn queued(s: &[u8], n: usize) -> usize
+    requires { ⌜ Room n (now s) ⌝ }
+    ensures { λ r. ⌜ (r ≡ runs.queued n (now (s .entry))) × (r ≤ 408000) ⌝ }
+{
+    let mut sum = 0;
+    for w in 0..n {
+        sum += waiting_from(s, n, w);
+    }
+    sum
+}
+
+// Is v a destination other than u itself that u has at a distance below n? 1 or 0.
+fn reaches(s: &[u8], n: usize, u: usize, v: usize) -> usize
+    requires { ⌜ Room n (now s) × (u < n) × (v < n) ⌝ }
+    ensures { λ r. ⌜ (r ≡ runs.reaches n u (now (s .entry)) v) × (r ≤ 1) ⌝ }
+{
+    if v == u {
+        return 0;
+    }
+    if get2(s, n, Table::Distances, u, v) < n {
+        1
+    } else {
+        0
+    }
+}
+
+pub fn reached(s: &[u8], n: usize, u: usize) -> usize
+    requires { ⌜ Room n (now s) × (u < n) ⌝ }
+    ensures { λ r. ⌜ (r ≡ runs.reached n u (now (s .entry))) × (r ≤ 40) ⌝ }
+{
+    let mut sum = 0;
+    for v in 0..n {
+        sum += reaches(s, n, u, v);
+    }
+    sum
+}
+
+// Passes until every queue is empty or k are made.
+pub fn run(s: &mut [u8], n: usize, k: u32) -> Ran
+    requires { ⌜ Room n (now s) × (k < 256) ⌝ }
+    ensures { λ r. ⌜ (r ≡ runs.ran n k (now (s .entry))) × (now (s .exit) ≡ runs.run n k (now (s .entry))) ⌝ }
+{
+    let mut made = 0u32;
+    let mut deliveries = 0u32;
+    while made < k {
+        let waiting = queued(s, n);
+        if waiting == 0 {
+            break;
+        }
+        pass(s, n);
+        deliveries += waiting as u32;
+        made += 1;
+    }
+    Ran {
+        passes: made,
+        deliveries: deliveries,
+    }
+}

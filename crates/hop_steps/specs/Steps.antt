@@ -1,0 +1,83 @@
+-- What the code does to the bytes at each event, in the order of hop_rule's Rule. Every definition is total, as those of one queue are; on sound bytes each is the rule's.
+-- Used by the code's own definitions; a buyer needs none of it.
+use mathlib.Core.Bool.{Bool, _&&_}
+use mathlib.Core.List.{List}
+use Prim.Native.Nat.{ℕ, _+_, _-_}
+use lib.Dec.{eqb, ltb}
+use lib.ListN.{set}
+use Rattle.hop_rule.specs.declared.Table.the-variants.{Links, Distances, Downstreams, Views, Destinations, Values}
+use Rattle.hop_rule.specs.Words.{if_then_else_, loop}
+use Rattle.hop_cells.specs.Cells.{get2, get3, put2, put3}
+use Rattle.hop_queues.specs.Queues.{fill, held, send, takeHead, offerAll, empty}
+use Rattle.hop_steps.specs.declared.Best.{Best}
+
+-- The link is up at u's end.
+abbrev pub up : ℕ → ℕ → ℕ → List ℕ → Bool
+up n u w s = eqb (get2 n Links u w s) 1
+
+-- Neighbour w is looked at, after those below it, which gave b.
+unfoldable pub nearer : ℕ → ℕ → ℕ → List ℕ → ℕ → Best → Best
+nearer n u v s w b =
+    let d = get3 n Views u w v s + 1 in
+    if up n u w s && ltb d (b .distance) then record { distance = d; downstream = w } else b
+
+-- The smaller of n and 1 + the least view of v over u's up links, and the lowest neighbour that gives it, or 255.
+unfoldable pub best : ℕ → ℕ → ℕ → List ℕ → Best
+best n u v s = loop n (nearer n u v s) (record { distance = n; downstream = 255 })
+
+-- The distance and the downstream of v at u become those of b.
+unfoldable pub store : ℕ → ℕ → ℕ → Best → List ℕ → List ℕ
+store n u v b s = put2 n Downstreams u v (b .downstream) (put2 n Distances u v (b .distance) s)
+
+-- The entry (v, d) is sent from u to w, if that link is up; and on each up link of u.
+unfoldable pub tellOne : ℕ → ℕ → ℕ → ℕ → ℕ → List ℕ → List ℕ
+tellOne n u v d w s = if up n u w s then send n u w v d s else s
+
+unfoldable pub tell : ℕ → ℕ → ℕ → ℕ → List ℕ → List ℕ
+tell n u v d s = loop n (tellOne n u v d) s
+
+-- 'Recompute' of v at u. If the distance changed, it is told.
+unfoldable pub recompute : ℕ → ℕ → ℕ → List ℕ → List ℕ
+recompute n u v s =
+    let b = best n u v s in
+    let stored = store n u v b s in
+    if eqb u v then s else (if eqb (b .distance) (get2 n Distances u v s) then stored else tell n u v (b .distance) stored)
+
+-- 'Deliver' from w to u: the head entry (v, d) leaves, u's view of v from w becomes d, and u recomputes v. Nothing happens where nothing waits, or v is no node.
+unfoldable pub deliver : ℕ → ℕ → ℕ → List ℕ → List ℕ
+deliver n w u s =
+    let k = held n w u s in
+    let v = get3 n Destinations w u 0 s in
+    let d = get3 n Values w u 0 s in
+    if ltb 0 k && ltb v n then recompute n u v (put3 n Views u w v d (takeHead n w u (k - 1) s)) else s
+
+-- 'Link up' a, b: both ends are up, and each offers all that it has to the other.
+unfoldable pub linkUp : ℕ → ℕ → ℕ → List ℕ → List ℕ
+linkUp n a b s = offerAll n b a (offerAll n a b (put2 n Links b a 1 (put2 n Links a b 1 s)))
+
+-- u's end of the link to w is down, its views from w are n, and its queue to w is empty.
+unfoldable pub cutEnd : ℕ → ℕ → ℕ → List ℕ → List ℕ
+cutEnd n u w s = empty n u w (fill n Views u w n (put2 n Links u w 0 s))
+
+-- u recomputes every destination, in ascending order.
+unfoldable pub recomputeAll : ℕ → ℕ → List ℕ → List ℕ
+recomputeAll n u s = loop n (recompute n u) s
+
+-- 'Link down' a, b: both ends are cut, and then each recomputes.
+unfoldable pub linkDown : ℕ → ℕ → ℕ → List ℕ → List ℕ
+linkDown n a b s = recomputeAll n b (recomputeAll n a (cutEnd n b a (cutEnd n a b s)))
+
+-- 'Fresh': what u has for v, and its end of the link to v.
+unfoldable pub freshRoute : ℕ → ℕ → ℕ → Best
+freshRoute n u v = if eqb u v then record { distance = 0; downstream = u } else record { distance = n; downstream = 255 }
+
+unfoldable pub freshEnd : ℕ → ℕ → ℕ → List ℕ → List ℕ
+freshEnd n u v s = store n u v (freshRoute n u v) (cutEnd n u v s)
+
+-- Node u of a fresh state.
+unfoldable pub freshNode : ℕ → ℕ → List ℕ → List ℕ
+freshNode n u s = loop n (freshEnd n u) s
+
+-- A fresh state of n nodes. No byte is read.
+unfoldable pub make : ℕ → List ℕ → List ℕ
+make n s = loop n (freshNode n) (set s 0 n)

@@ -1,0 +1,230 @@
+// The events on the bytes of a stored state: recompute, deliver, link up, link down; and a fresh state.
+
+use hop_cells::get2;
+use hop_cells::get3;
+use hop_cells::pair;
+use hop_cells::put2;
+use hop_cells::start;
+use hop_cells::triple;
+use hop_cells::wide;
+use hop_queues::empty;
+use hop_queues::fill;
+use hop_queues::held;
+use hop_queues::offer_all;
+use hop_queues::send;
+use hop_queues::take_head;
+use hop_rule::Table;
+ghost use mathlib.Core.Path.{_≡_};
+ghost use Prim.Native.Nat.{_+_, _*_, _<_, _≤_};
+ghost use lib.ListN.{length, set};
+ghost use Rattle.hop_rule.specs.declared.Table.the-variants.{Views};
+ghost use Rattle.hop_cells.specs.Cells.{Room, put3};
+ghost use Rattle.hop_steps.specs.Steps as step;
+
+// What recompute finds for a destination.
+pub struct Best {
+    pub distance: u8,
+    pub downstream: u8,
+}
+
+// Neighbour w is looked at, after those below it, which gave b.
+fn nearer(s: &[u8], n: usize, u: usize, v: usize, w: usize, b: Best) -> Best
+    requires { ⌜ Room n (now s) × (u < n) × (v < n) × (w < n) ⌝ }
+    ensures { λ r. ⌜ r ≡ step.nearer n u v (now (s .entry)) w b ⌝ }
+{
+    if get2(s, n, Table::Links, u, w) == 1 {
+        let d = get3(s, n, Table::Views, u, w, v) + 1;
+        if d < wide(b.distance) {
+            return Best {
+                distance: d as u8,
+                downstream: w as u8,
+            };
+        }
+    }
+    b
+}
+
+// The least distance of v at u, and the lowest neighbour that gives it.
+fn find_best(s: &[u8], n: usize, u: usize, v: usize) -> Best
+    requires { ⌜ Room n (now s) × (u < n) × (v < n) ⌝ }
+    ensures { λ r. ⌜ r ≡ step.best n u v (now (s .entry)) ⌝ }
+{
+    let mut b = Best {
+        distance: n as u8,
+        downstream: 255,
+    };
+    for w in 0..n {
+        b = nearer(s, n, u, v, w, b);
+    }
+    b
+}
+
+// The distance and the downstream of v at u become those of b.
+fn store(s: &mut [u8], n: usize, u: usize, v: usize, b: Best)
+    requires { ⌜ Room n (now s) × (u < n) × (v < n) ⌝ }
+    ensures { λ r. ⌜ now (s .exit) ≡ step.store n u v b (now (s .entry)) ⌝ }
+{
+    put2(s, n, Table::Distances, u, v, b.distance);
+    put2(s, n, Table::Downstreams, u, v, b.downstream);
+}
+
+// The entry (v, d) is sent from u to w, if that link is up.
+fn tell_one(s: &mut [u8], n: usize, u: usize, v: usize, d: u8, w: usize)
+    requires { ⌜ Room n (now s) × (u < n) × (v < n) × (w < n) ⌝ }
+    ensures { λ r. ⌜ now (s .exit) ≡ step.tellOne n u v d w (now (s .entry)) ⌝ }
+{
+    if get2(s, n, Table::Links, u, w) == 1 {
+        send(s, n, u, w, v, d);
+    }
+}
+
+// And on each up link of u.
+fn tell(s: &mut [u8], n: usize, u: usize, v: usize, d: u8)
+    requires { ⌜ Room n (now s) × (u < n) × (v < n) ⌝ }
+    ensures { λ r. ⌜ now (s .exit) ≡ step.tell n u v d (now (s .entry)) ⌝ }
+{
+    for w in 0..n {
+        tell_one(s, n, u, v, d, w);
+    }
+}
+
+// Recompute of v at u. If the distance changed, it is told.
+pub fn recompute(s: &mut [u8], n: usize, u: usize, v: usize)
+    requires { ⌜ Room n (now s) × (u < n) × (v < n) ⌝ }
+    ensures { λ r. ⌜ now (s .exit) ≡ step.recompute n u v (now (s .entry)) ⌝ }
+{
+    if u == v {
+        return;
+    }
+    let old = get2(s, n, Table::Distances, u, v);
+    let b = find_best(s, n, u, v);
+    store(s, n, u, v, b);
+    if wide(b.distance) != old {
+        tell(s, n, u, v, b.distance);
+    }
+}
+
+// The view of v from w, in one node's stretch of the views.
+fn hear_in(views: &mut [u8], n: usize, w: usize, v: usize, d: u8)
+    requires { ⌜ (n ≤ 40) × (w < n) × (v < n) × (n * n ≤ length (now views)) ⌝ }
+    ensures { λ r. ⌜ now (views .exit) ≡ set (now (views .entry)) (w * n + v) d ⌝ }
+{
+    let at = pair(n, w, v);
+    views[at] = d;
+}
+
+// u's view of v from w becomes d. Only u's stretch of the views is lent.
+fn hear(s: &mut [u8], n: usize, u: usize, w: usize, v: usize, d: u8)
+    requires { ⌜ Room n (now s) × (u < n) × (w < n) × (v < n) ⌝ }
+    ensures { λ r. ⌜ now (s .exit) ≡ put3 n Views u w v d (now (s .entry)) ⌝ }
+{
+    let from = start(n, Table::Views) + triple(n, u, 0, 0);
+    let to = from + n * n;
+    hear_in(&mut s[from..to], n, w, v, d);
+}
+
+// The head entry of the queue from w to u leaves, is heard, and u recomputes its destination.
+pub fn deliver(s: &mut [u8], n: usize, w: usize, u: usize)
+    requires { ⌜ Room n (now s) × (w < n) × (u < n) ⌝ }
+    ensures { λ r. ⌜ now (s .exit) ≡ step.deliver n w u (now (s .entry)) ⌝ }
+{
+    let k = held(s, n, w, u);
+    if 0 < k {
+        let v = get3(s, n, Table::Destinations, w, u, 0);
+        let d = get3(s, n, Table::Values, w, u, 0);
+        if v < n {
+            take_head(s, n, w, u, k - 1);
+            hear(s, n, u, w, v, d as u8);
+            recompute(s, n, u, v);
+        }
+    }
+}
+
+// Both ends are up, and each offers all that it has to the other.
+pub fn link_up(s: &mut [u8], n: usize, a: usize, b: usize)
+    requires { ⌜ Room n (now s) × (a < n) × (b < n) ⌝ }
+    ensures { λ r. ⌜ now (s .exit) ≡ step.linkUp n a b (now (s .entry)) ⌝ }
+{
+    put2(s, n, Table::Links, a, b, 1);
+    put2(s, n, Table::Links, b, a, 1);
+    offer_all(s, n, a, b);
+    offer_all(s, n, b, a);
+}
+
+// u's end of the link to w is down, its views from w are n, and its queue to w is empty.
+fn cut_end(s: &mut [u8], n: usize, u: usize, w: usize)
+    requires { ⌜ Room n (now s) × (u < n) × (w < n) ⌝ }
+    ensures { λ r. ⌜ now (s .exit) ≡ step.cutEnd n u w (now (s .entry)) ⌝ }
+{
+    put2(s, n, Table::Links, u, w, 0);
+    fill(s, n, Table::Views, u, w, n as u8);
+    empty(s, n, u, w);
+}
+
+// u recomputes every destination, in ascending order.
+fn recompute_all(s: &mut [u8], n: usize, u: usize)
+    requires { ⌜ Room n (now s) × (u < n) ⌝ }
+    ensures { λ r. ⌜ now (s .exit) ≡ step.recomputeAll n u (now (s .entry)) ⌝ }
+{
+    for v in 0..n {
+        recompute(s, n, u, v);
+    }
+}
+
+// Both ends are cut, and then each recomputes.
+pub fn link_down(s: &mut [u8], n: usize, a: usize, b: usize)
+    requires { ⌜ Room n (now s) × (a < n) × (b < n) ⌝ }
+    ensures { λ r. ⌜ now (s .exit) ≡ step.linkDown n a b (now (s .entry)) ⌝ }
+{
+    cut_end(s, n, a, b);
+    cut_end(s, n, b, a);
+    recompute_all(s, n, a);
+    recompute_all(s, n, b);
+}
+
+// What u has for v in a fresh state, and its end of the link to v.
+fn fresh_route(n: usize, u: usize, v: usize) -> Best
+    requires { ⌜ (n ≤ 40) × (u < n) ⌝ }
+    ensures { λ r. ⌜ r ≡ step.freshRoute n u v ⌝ }
+{
+    if u == v {
+        Best {
+            distance: 0,
+            downstream: u as u8,
+        }
+    } else {
+        Best {
+            distance: n as u8,
+            downstream: 255,
+        }
+    }
+}
+
+fn fresh_end(s: &mut [u8], n: usize, u: usize, v: usize)
+    requires { ⌜ Room n (now s) × (u < n) × (v < n) ⌝ }
+    ensures { λ r. ⌜ now (s .exit) ≡ step.freshEnd n u v (now (s .entry)) ⌝ }
+{
+    cut_end(s, n, u, v);
+    store(s, n, u, v, fresh_route(n, u, v));
+}
+
+// Node u of a fresh state.
+fn fresh_node(s: &mut [u8], n: usize, u: usize)
+    requires { ⌜ Room n (now s) × (u < n) ⌝ }
+    ensures { λ r. ⌜ now (s .exit) ≡ step.freshNode n u (now (s .entry)) ⌝ }
+{
+    for v in 0..n {
+        fresh_end(s, n, u, v);
+    }
+}
+
+// A fresh state of n nodes. No byte is read.
+pub fn make(s: &mut [u8], n: usize)
+    requires { ⌜ Room n (now s) ⌝ }
+    ensures { λ r. ⌜ now (s .exit) ≡ step.make n (now (s .entry)) ⌝ }
+{
+    s[0] = n as u8;
+    for u in 0..n {
+        fresh_node(s, n, u);
+    }
+}
