@@ -1,0 +1,55 @@
+use mathlib.Core.List.{[], _∷_}
+use Rattle.hop_judge.proofs.Done.{call-refused}
+use Rattle.hop_rule.specs.Calls as call
+use Rattle.hop_rule.specs.Calls.{refusals}
+use Rattle.hop_judge.proofs.Known.{fine-known, fine-room}
+use Rattle.hop_core.proofs.Events.{pass-done}
+use borrow.Author.Needs.{needs}
+use Rattle.hop_core.proofs.pass.Statement.{statement}
+use Rattle.hop_core.proofs.pass.Tie as tie
+
+judge-state-requires : tie.Need-judge-state-requires
+judge-state-requires c κs = search needs
+
+same-length : tie.Need-same-length
+same-length c = search needs
+
+returns : tie.Need-returns
+unfolding refusals
+returns c = call-refused call.pass (c .before .before .before .before .args .s .now) [] (c .before .judge-state .ensures) (c .if1 .taken)
+
+slice-read-wide : tie.Need-slice-read-wide
+slice-read-wide c = fine-known (c .before .before .before .before .before .args .s .now) [] (c .before .before .judge-state .ensures) (c .before .if1 .left) .some
+
+wide-requires : tie.Need-wide-requires
+wide-requires c κs = search needs
+
+queued-requires : tie.Need-queued-requires
+queued-requires c κs = fine-room (fine-known (c .before .before .before .before .before .before .before .args .s .now) [] (c .before .before .before .before .judge-state .ensures) (c .before .before .before .if1 .left)) (c .before .wide .ensures .0)
+
+pass-requires : tie.Need-pass-requires
+pass-requires c κs = fine-room (fine-known (c .before .before .before .before .before .before .before .before .before .args .s .now) [] (c .before .before .before .before .before .before .judge-state .ensures) (c .before .before .before .before .before .if1 .left)) (c .before .before .before .wide .ensures .0)
+
+cast-t15 : tie.Need-cast-t15
+cast-t15 c = search needs
+
+same-length-2 : tie.Need-same-length-2
+same-length-2 c = search needs
+
+returns-2 : tie.Need-returns-2
+returns-2 c = pass-done (c .before .before .before .before .before .before .before .before .before .before .before .before .args .s .now) (c .before .before .before .before .before .before .before .before .before .judge-state .ensures) (c .before .before .before .before .before .before .before .before .if1 .left) (c .before .before .before .before .before .before .wide .ensures .0) (c .before .before .before .before .queued .ensures .0) (c .before .before .pass .ensures)
+
+pub pass-spec : {M : Type 1} → statement M
+pass-spec =
+    tie.close
+    (tie.spec
+    judge-state-requires
+    same-length
+    returns
+    slice-read-wide
+    wide-requires
+    queued-requires
+    pass-requires
+    cast-t15
+    same-length-2
+    returns-2)

@@ -1,0 +1,117 @@
+// The public calls that change a state, and check. None counts on its caller: each refuses by document 01's numbers, in its order, or does what hop_rule says.
+
+use hop_cells::wide;
+use hop_judge::judge_deliver;
+use hop_judge::judge_down;
+use hop_judge::judge_make;
+use hop_judge::judge_state;
+use hop_judge::judge_up;
+ghost use mathlib.Core.Path.{_≡_};
+ghost use mathlib.Core.List.{[]};
+ghost use Prim.Native.Nat.{_<_};
+ghost use Rattle.hop_rule.specs.Calls as call;
+ghost use Rattle.hop_rule.specs.Calls.{outcome};
+ghost use Rattle.hop_core.specs.Answers.{told, passed, ran};
+
+// What a pass answers: the entries delivered, or the number of a refusal.
+pub enum PassAnswer {
+    Delivered(u32),
+    Refused(u32),
+}
+
+// What a run answers: the passes made and the entries delivered, or the number of a refusal.
+pub enum RunAnswer {
+    Made(u32, u32),
+    Refused(u32),
+}
+
+// A fresh state of n nodes. Refuses 1, 2.
+pub fn make(s: &mut [u8], n: usize) -> u32
+    ensures { λ r. ⌜ told r (now (s .exit)) ≡ outcome (call.make n) (now (s .entry)) [] ⌝ }
+{
+    let c = judge_make(s, n);
+    if c != 0 {
+        return c;
+    }
+    hop_steps::make(s, n);
+    0
+}
+
+// Is the state sound? Refuses 2, 1, 2, 3.
+pub fn check(s: &[u8]) -> u32
+    ensures { λ r. ⌜ told r (now (s .entry)) ≡ outcome call.check (now (s .entry)) [] ⌝ }
+{
+    judge_state(s)
+}
+
+// The link between a and b comes up. Refuses 2, 1, 2, 3, 4, 5, 6.
+pub fn up(s: &mut [u8], a: usize, b: usize) -> u32
+    ensures { λ r. ⌜ told r (now (s .exit)) ≡ outcome (call.up a b) (now (s .entry)) [] ⌝ }
+{
+    let c = judge_up(s, a, b);
+    if c != 0 {
+        return c;
+    }
+    let n = wide(s[0]);
+    hop_steps::link_up(s, n, a, b);
+    0
+}
+
+// The link between a and b goes down, at both ends at one moment. Refuses 2, 1, 2, 3, 4, 5, 7.
+pub fn down(s: &mut [u8], a: usize, b: usize) -> u32
+    ensures { λ r. ⌜ told r (now (s .exit)) ≡ outcome (call.down a b) (now (s .entry)) [] ⌝ }
+{
+    let c = judge_down(s, a, b);
+    if c != 0 {
+        return c;
+    }
+    let n = wide(s[0]);
+    hop_steps::link_down(s, n, a, b);
+    0
+}
+
+// The head of the queue from w to u is delivered. Refuses 2, 1, 2, 3, 4, 5, 7, 8.
+pub fn deliver(s: &mut [u8], w: usize, u: usize) -> u32
+    ensures { λ r. ⌜ told r (now (s .exit)) ≡ outcome (call.deliver w u) (now (s .entry)) [] ⌝ }
+{
+    let c = judge_deliver(s, w, u);
+    if c != 0 {
+        return c;
+    }
+    let n = wide(s[0]);
+    hop_steps::deliver(s, n, w, u);
+    0
+}
+
+// One pass. Refuses 2, 1, 2, 3.
+pub fn pass(s: &mut [u8]) -> PassAnswer
+    ensures { λ r. ⌜ passed r (now (s .exit)) ≡ outcome call.pass (now (s .entry)) [] ⌝ }
+{
+    let c = judge_state(s);
+    if c != 0 {
+        return PassAnswer::Refused(c);
+    }
+    let n = wide(s[0]);
+    let d = hop_runs::queued(s, n);
+    hop_runs::pass(s, n);
+    PassAnswer::Delivered(d as u32)
+}
+
+fn count(allowance: u8) -> u32
+    ensures { λ r. ⌜ (r ≡ allowance) × (r < 256) ⌝ }
+{
+    allowance as u32
+}
+
+// Passes until every queue is empty or the allowance is used up. Refuses 2, 1, 2, 3.
+pub fn run(s: &mut [u8], allowance: u8) -> RunAnswer
+    ensures { λ r. ⌜ ran r (now (s .exit)) ≡ outcome (call.run allowance) (now (s .entry)) [] ⌝ }
+{
+    let c = judge_state(s);
+    if c != 0 {
+        return RunAnswer::Refused(c);
+    }
+    let n = wide(s[0]);
+    let r = hop_runs::run(s, n, count(allowance));
+    RunAnswer::Made(r.passes, r.deliveries)
+}

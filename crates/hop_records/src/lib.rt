@@ -1,0 +1,240 @@
+// Event and status records as bytes, written and read; and the reader that keeps the lent bytes together with its place.
+use hop_rule::Event;
+use hop_rule::Reading;
+ghost use mathlib.Core.Path.{_≡_};
+ghost use mathlib.Core.List.{[], _∷_};
+ghost use Prim.Native.Nat.{_+_, _<_, _≤_};
+ghost use lib.ListN.{length};
+ghost use lib.Seq.{sets};
+ghost use Rattle.hop_rule.specs.Records.{words, wordAt, recordOf, known, lengthOf, eventAt, readEvent, written};
+ghost use Rattle.hop_rule.specs.Calls.{writeEvent, outcome};
+ghost use Rattle.hop_records.specs.Writing.{outcomeOf, tried};
+ghost use Rattle.hop_records.specs.Stepping.{placeAfter, stepAt};
+
+// What writing a record gives: the bytes written, or the number of the refusal.
+pub enum Written {
+    Bytes(usize),
+    Refused(u32),
+}
+
+// One little-endian 16-bit number at a place.
+fn write_word(out: &mut [u8], at: usize, x: u16)
+    requires { ⌜ at + 2 ≤ length (now out) ⌝ }
+    ensures { λ _. ⌜ now (out .exit) ≡ sets (now (out .entry)) at (words (x ∷ [])) ⌝ }
+{
+    out[at] = (x % 256) as u8;
+    out[at + 1] = (x / 256) as u8;
+}
+
+// Two of them, one behind the other.
+fn write_pair(out: &mut [u8], at: usize, x: u16, y: u16)
+    requires { ⌜ at + 4 ≤ length (now out) ⌝ }
+    ensures { λ _. ⌜ now (out .exit) ≡ sets (now (out .entry)) at (words (x ∷ y ∷ [])) ⌝ }
+{
+    write_word(out, at, x);
+    write_word(out, at + 2, y);
+}
+
+// A record whose body has no number, one, or two.
+fn write_none(kind: u16, out: &mut [u8]) -> Written
+    ensures { λ r. ⌜ outcomeOf r (now (out .exit)) ≡ tried (recordOf kind []) (now (out .entry)) ⌝ }
+{
+    if out.len() < 4 {
+        return Written::Refused(2);
+    }
+    write_pair(out, 0, 2, kind);
+    Written::Bytes(4)
+}
+
+fn write_one(kind: u16, a: u16, out: &mut [u8]) -> Written
+    ensures { λ r. ⌜ outcomeOf r (now (out .exit)) ≡ tried (recordOf kind (a ∷ [])) (now (out .entry)) ⌝ }
+{
+    if out.len() < 6 {
+        return Written::Refused(2);
+    }
+    write_pair(out, 0, 4, kind);
+    write_word(out, 4, a);
+    Written::Bytes(6)
+}
+
+fn write_two(kind: u16, a: u16, b: u16, out: &mut [u8]) -> Written
+    ensures { λ r. ⌜ outcomeOf r (now (out .exit)) ≡ tried (recordOf kind (a ∷ b ∷ [])) (now (out .entry)) ⌝ }
+{
+    if out.len() < 8 {
+        return Written::Refused(2);
+    }
+    write_pair(out, 0, 6, kind);
+    write_pair(out, 4, a, b);
+    Written::Bytes(8)
+}
+
+// Writing an event needs its length + 2 bytes; the bytes after them stay.
+pub fn write_event(e: Event, out: &mut [u8]) -> Written
+    ensures { λ r. ⌜ outcomeOf r (now (out .exit)) ≡ outcome (writeEvent e) [] (now (out .entry)) ⌝ }
+{
+    match e {
+        Event::Make(n) => write_one(15, n, out),
+        Event::Up(a, b) => write_two(16, a, b, out),
+        Event::Down(a, b) => write_two(17, a, b, out),
+        Event::Deliver(w, u) => write_two(18, w, u, out),
+        Event::Pass => write_none(19, out),
+    }
+}
+
+// The status record, where there is room for its 14 bytes.
+pub fn write_status(
+    out: &mut [u8],
+    node: usize,
+    waiting_for: usize,
+    waiting_from: usize,
+    reached: usize,
+    total: usize,
+)
+    requires { ⌜ (14 ≤ length (now out)) × (node < 65536) × («waiting_for» < 65536) × («waiting_from» < 65536) × (reached < 65536) × (total < 65536) ⌝ }
+    ensures { λ _. ⌜ now (out .exit) ≡ written (recordOf 1 (node ∷ «waiting_for» ∷ «waiting_from» ∷ reached ∷ total ∷ [])) (now (out .entry)) ⌝ }
+{
+    write_pair(out, 0, 12, 1);
+    write_pair(out, 4, node as u16, waiting_for as u16);
+    write_pair(out, 8, waiting_from as u16, reached as u16);
+    write_word(out, 12, total as u16);
+}
+
+// One little-endian 16-bit number from a place.
+fn word_at(s: &[u8], at: usize) -> u16
+    requires { ⌜ at + 2 ≤ length (now s) ⌝ }
+    ensures { λ r. ⌜ r ≡ wordAt (now (s .entry)) at ⌝ }
+{
+    s[at] as u16 + 256 * (s[at + 1] as u16)
+}
+
+fn is_known(kind: u16) -> bool
+    ensures { λ r. ⌜ r ≡ known kind ⌝ }
+{
+    match kind {
+        15..=19 => true,
+        _ => false,
+    }
+}
+
+fn length_of(kind: u16) -> u16
+    ensures { λ r. ⌜ r ≡ lengthOf kind ⌝ }
+{
+    match kind {
+        15 => 4,
+        19 => 2,
+        _ => 6,
+    }
+}
+
+// The event of a kind, from its body at a place.
+fn event_at(kind: u16, s: &[u8], at: usize) -> Event
+    requires { ⌜ at + lengthOf kind ≤ 2 + length (now s) ⌝ }
+    ensures { λ r. ⌜ r ≡ eventAt kind (now (s .entry)) at ⌝ }
+{
+    match kind {
+        15 => Event::Make(word_at(s, at)),
+        16 => Event::Up(word_at(s, at), word_at(s, at + 2)),
+        17 => Event::Down(word_at(s, at), word_at(s, at + 2)),
+        18 => Event::Deliver(word_at(s, at), word_at(s, at + 2)),
+        _ => Event::Pass,
+    }
+}
+
+// Reading where at least a length and a kind are left.
+fn read_record(s: &[u8], place: usize) -> Reading
+    requires { ⌜ place + 4 ≤ length (now s) ⌝ }
+    ensures { λ r. ⌜ r ≡ readEvent (now (s .entry)) place ⌝ }
+{
+    let kind = word_at(s, place + 2);
+    if !is_known(kind) {
+        return Reading::Refused(10);
+    }
+    let size = word_at(s, place);
+    if size != length_of(kind) {
+        return Reading::Refused(11);
+    }
+    let next = place + 2 + size as usize;
+    if s.len() < next {
+        return Reading::Refused(9);
+    }
+    Reading::Found(event_at(kind, s, place + 4), next)
+}
+
+// Reading at any place. No test adds to the place before it is known to lie within the bytes.
+pub fn read_event(s: &[u8], place: usize) -> Reading
+    ensures { λ r. ⌜ r ≡ readEvent (now (s .entry)) place ⌝ }
+{
+    if s.len() < place {
+        return Reading::Refused(9);
+    }
+    if s.len() == place {
+        return Reading::End;
+    }
+    if s.len() - place < 4 {
+        return Reading::Refused(9);
+    }
+    read_record(s, place)
+}
+
+// What was read at a place, and the place to read at next.
+pub struct Step {
+    pub reading: Reading,
+    pub next: usize,
+}
+
+// Past the record that was found. A refusal or the end leaves the place as it was.
+fn place_after(reading: Reading, at: usize) -> usize
+    ensures { λ r. ⌜ r ≡ placeAfter reading at ⌝ }
+{
+    match reading {
+        Reading::Found(_, next) => next,
+        Reading::End => at,
+        Reading::Refused(_) => at,
+    }
+}
+
+fn step_at(s: &[u8], at: usize) -> Step
+    ensures { λ r. ⌜ r ≡ stepAt (now (s .entry)) at ⌝ }
+{
+    let reading = read_event(s, at);
+    Step {
+        reading,
+        next: place_after(reading, at),
+    }
+}
+
+// The lent bytes together with the place of the next record.
+pub struct Reader<'a> {
+    pub src: &'a [u8],
+    pub at: usize,
+}
+
+// A reader at a place: at 0 the first record is read next.
+pub fn reader_at<'a>(src: &'a [u8], at: usize) -> Reader<'a>
+    ensures { λ r. ⌜ (r .src ≡ src .entry) × (r .at ≡ at) ⌝ }
+{
+    Reader { src, at }
+}
+
+// Reads the record at the reader's place, and moves the place past it.
+pub fn read_next<'s, 'a>(r: &'s mut Reader<'a>) -> Reading
+    ensures { λ reading. ⌜ (reading ≡ readEvent (now (now (r .entry) .src)) (now (r .entry) .at))
+        × (now (r .exit) .src ≡ now (r .entry) .src)
+        × (now (r .exit) .at ≡ placeAfter reading (now (r .entry) .at)) ⌝ }
+{
+    let step = step_at(r.src, r.at);
+    r.at = step.next;
+    step.reading
+}
+
+// One record through a reader, for callers that keep bytes and place themselves.
+pub fn read_from(s: &[u8], at: usize) -> Step
+    ensures { λ step. ⌜ step ≡ stepAt (now (s .entry)) at ⌝ }
+{
+    let mut r = reader_at(s, at);
+    let reading = read_next(&mut r);
+    Step {
+        reading,
+        next: r.at,
+    }
+}

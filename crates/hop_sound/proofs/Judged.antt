@@ -1,0 +1,194 @@
+-- What each test of the check tells, as facts about the bytes of a state. Assumes nothing.
+use mathlib.Core.Path.{_≡_, refl, ap, _∙_}
+use mathlib.Core.Logic.{_⊎_, inl, inr, _≢_}
+use mathlib.Core.Bool.{Bool, true, false, cond, _&&_}
+use mathlib.Core.List.{List}
+use Prim.Native.Nat.{ℕ, zero, suc, _+_, _*_, _-_, _/_, _%_, _≤_, _<_}
+use native.Mathlib.Nat.{zero-lt-suc, add-mul, mod-lt, div-add-mod', div-lt-iff-lt-mul}
+use native.Mathlib.Decide.{ℕ-discrete}
+use native.Mathlib.Omega.{arith}
+use lib.Arith.{digits-lt}
+use lib.Dec.{leb}
+use lib.ListN.{getD}
+use Rattle.hop_rule.specs.declared.Table.{Table}
+use Rattle.hop_rule.specs.declared.Table.the-variants.{Links, Distances, Downstreams, Views, Lengths, Destinations, Values}
+use Rattle.hop_rule.specs.Stored.{nodes, flat, deep, read}
+use Rattle.hop_laws.proofs.Tests.{Tells, tells-as, tells-not-so, tells-eq, tells-le, tells-lt, tells-not, tells-and, tells-or, tells-every}
+use Rattle.hop_cells.specs.Cells.{get}
+use Rattle.hop_sound.specs.Rows.{allAre}
+use Rattle.hop_sound.specs.Check.{row, linkSound, downSound, idleSound, busySound, queueSound, upSound, pairSound, routeSound, pastSound, sentSound, nodeSound, allSound}
+use Rattle.hop_sound.proofs.RowTests.{Reads, Allows, tells-are, tells-below, tells-differing, tells-same-rows, tells-allow, tells-entries, tells-heard}
+use Rattle.hop_sound.proofs.Routes.{Given}
+
+-- A choice of tests tells what each of them tells in its case.
+tells-case : {b c d : Bool} {P Q : Type 0} → Tells b P → (P → Tells c Q) → ((P → ⊥) → Tells d Q) → Tells (cond b c d) Q
+tells-case {b = true} t r k = r (t .shows refl)
+tells-case {b = false} t r k = k (tells-not-so t refl)
+
+tells-choice : {b c d : Bool} {P Q R : Type 0} → Tells b P → Tells c Q → Tells d R → Tells (cond b c d) ((P → Q) × ((P → ⊥) → R))
+tells-choice t r k = tells-case t
+    (λ p. tells-as (λ q. ((λ i. q), λ f. absurd (f p))) (λ h. h .0 p) r)
+    (λ f. tells-as (λ q. ((λ p. absurd (f p)), λ i. q)) (λ h. h .1 f) k)
+
+-- A number below n² has two digits in base n.
+digits : (n i : ℕ) → i < n * n → (a : ℕ) × (b : ℕ) × (a < n) × (b < n) × (a * n + b ≡ i)
+digits zero i l = absurd (omega arith)
+digits (suc k) i l = (i / suc k, i % suc k, div-lt-iff-lt-mul (zero-lt-suc k) .1 l, mod-lt i (zero-lt-suc k), div-add-mod' i (suc k))
+
+-- ---- what is judged
+
+-- Of the queue from w to u on an up link.
+pub record Queued (s : List ℕ) (u w : ℕ) : Type 0 where
+  pub most : flat s Lengths w u ≤ nodes s
+  pub views : flat s Lengths w u ≢ 0 → (v : ℕ) → v < nodes s → deep s Views u w v ≤ nodes s
+  pub below : (p : ℕ) → p < flat s Lengths w u → deep s Destinations w u p < nodes s
+  pub values : (p : ℕ) → p < flat s Lengths w u → deep s Values w u p ≡ flat s Distances w (deep s Destinations w u p)
+  pub differ : (p : ℕ) → p < flat s Lengths w u → (q : ℕ) → q < p → deep s Destinations w u q ≢ deep s Destinations w u p
+  pub heard : (v : ℕ) → v < nodes s → ((p : ℕ) → p < flat s Lengths w u → deep s Destinations w u p ≢ v) → deep s Views u w v ≡ flat s Distances w v
+
+-- Of nodes u and w.
+pub record Paired (s : List ℕ) (u w : ℕ) : Type 0 where
+  pub bit : flat s Links u w ≤ 1
+  pub symmetric : flat s Links u w ≡ flat s Links w u
+  pub diagonal : u ≡ w → flat s Links u w ≡ 0
+  pub queue : flat s Links u w ≡ 1 → Queued s u w
+  pub allows : flat s Links u w ≡ 1 → (v : ℕ) → v < nodes s → Allows (nodes s) w (deep s Views u w v) (flat s Distances u v) (flat s Downstreams u v)
+  pub down-views : flat s Links u w ≢ 1 → (v : ℕ) → v < nodes s → deep s Views u w v ≡ nodes s
+  pub down-queue : flat s Links u w ≢ 1 → flat s Lengths w u ≡ 0
+
+-- Of the places of the queue from w to u.
+pub record Sent (s : List ℕ) (w u : ℕ) : Type 0 where
+  pub most : flat s Lengths w u ≤ nodes s
+  pub destinations : (p : ℕ) → p < nodes s → flat s Lengths w u ≤ p → deep s Destinations w u p ≡ 0
+  pub values : (p : ℕ) → p < nodes s → flat s Lengths w u ≤ p → deep s Values w u p ≡ 0
+
+pub record Judged (s : List ℕ) : Type 0 where
+  pub paired : (u w : ℕ) → u < nodes s → w < nodes s → Paired s u w
+  pub given : (u v : ℕ) → u < nodes s → v < nodes s → Given (read s) u v (flat s Distances u v) (flat s Downstreams u v)
+  pub sent : (w u : ℕ) → w < nodes s → u < nodes s → Sent s w u
+
+-- ---- what each test tells
+
+module _ (s : List ℕ) where
+  abbrev n : ℕ
+  n = nodes s
+
+  reads-flat : (t : Table) (a : ℕ) → Reads s (row n t a) (flat s t a)
+  unfolding flat
+  reads-flat t a = record { reads = λ b. ap (λ (i : ℕ). getD s i 0) (omega arith) }
+
+  reads-deep : (t : Table) (a b : ℕ) → Reads s (row n t (a * n + b)) (deep s t a b)
+  unfolding deep
+  reads-deep t a b = record { reads = λ c. ap (λ (i : ℕ). getD s i 0) (omega arith) }
+
+  module _ (u w : ℕ) where
+    m : ℕ
+    m = flat s Lengths w u
+
+    -- Where nothing waits, views that are the distances are all that is asked for;
+    tells-idle : m ≡ 0 → Tells (idleSound n s u w) (Queued s u w)
+    unfolding idleSound m
+    tells-idle e = tells-as
+        (λ h. record {
+          most = omega arith;
+          views = λ f. absurd (f e);
+          below = λ p l. absurd (omega arith);
+          values = λ p l. absurd (omega arith);
+          differ = λ p l. absurd (omega arith);
+          heard = λ v l f. h v l;
+        })
+        (λ h v l. h .heard v l (λ p k. absurd (omega arith)))
+        (tells-same-rows (reads-deep Views u w) (reads-flat Distances w) n)
+
+    -- else each clause is tested.
+    tells-busy : m ≢ 0 → Tells (leb m n && busySound n s u w m) (Queued s u w)
+    unfolding busySound m
+    tells-busy f =
+        let views = reads-deep Views u w in
+        let distances = reads-flat Distances w in
+        let destinations = reads-deep Destinations w u in
+        tells-as
+        (λ h. record {
+          most = h .0;
+          views = λ g v l. omega (arith, h .1 .0 v l);
+          below = λ p l. h .1 .1 .0 p l .0;
+          values = λ p l. h .1 .1 .0 p l .1;
+          differ = h .1 .1 .1 .0;
+          heard = h .1 .1 .1 .1;
+        })
+        (λ h. (h .most, ((λ v l. omega (arith, h .views f v l)), ((λ p l. (h .below p l, h .values p l)), (h .differ, h .heard)))))
+        (tells-and (tells-le m n)
+        (tells-and (tells-below views n (n + 1))
+        (tells-and (tells-entries distances destinations (reads-deep Values w u) n m)
+        (tells-and (tells-differing destinations m) (tells-heard distances destinations views n m)))))
+
+    tells-queue : Tells (queueSound n s u w) (Queued s u w)
+    unfolding queueSound get flat m
+    tells-queue = tells-case (tells-eq m 0) tells-idle tells-busy
+
+    l : ℕ
+    l = flat s Links u w
+
+    tells-paired : Tells (pairSound n s u w) (Paired s u w)
+    unfolding pairSound linkSound upSound downSound get flat m l
+    tells-paired = tells-as
+        (λ h. record {
+          bit = h .0 .0;
+          symmetric = h .0 .1 .0;
+          diagonal = λ e. elim (h .0 .1 .1) [ inl f ↦ absurd (f e) | inr i ↦ i ];
+          queue = λ e. h .1 .0 e .0;
+          allows = λ e. h .1 .0 e .1;
+          down-views = λ f. h .1 .1 f .1;
+          down-queue = λ f. h .1 .1 f .0;
+        })
+        (λ h. ((h .bit, (h .symmetric, ends h (ℕ-discrete u w))), ((λ e. (h .queue e, h .allows e)), λ f. (h .down-queue f, h .down-views f))))
+        (tells-and
+        (tells-and (tells-le l 1) (tells-and (tells-eq l (flat s Links w u)) (tells-or (tells-not (tells-eq u w)) (tells-eq l 0))))
+        (tells-choice (tells-eq l 1)
+        (tells-and tells-queue (tells-allow (reads-flat Distances u) (reads-deep Views u w) (reads-flat Downstreams u) n w))
+        (tells-and (tells-eq m 0) (tells-are (reads-deep Views u w) n n))))
+      where
+        ends : Paired s u w → Dec (u ≡ w) → (u ≢ w) ⊎ (l ≡ 0)
+        ends h (yes e) = inr (h .diagonal e)
+        ends h (no f) = inl f
+
+  tells-given : (u v : ℕ) → Tells (routeSound n s u v) (Given (read s) u v (flat s Distances u v) (flat s Downstreams u v))
+  unfolding routeSound get flat deep read
+  tells-given u v =
+      tells-choice (tells-eq u v) (tells-and (tells-eq _ 0) (tells-eq _ u))
+      (tells-choice (tells-eq _ n) (tells-eq _ 255) (tells-and (tells-lt _ n) (tells-and (tells-lt _ n) (tells-and (tells-eq _ 1) (tells-eq _ _)))))
+
+  -- The places of a queue from place k on are 0,
+  tells-past : (t : Table) (w u k : ℕ) → Tells (allAre s (row n t (w * n + u) + k) (n - k) 0) ((p : ℕ) → p < n → k ≤ p → deep s t w u p ≡ 0)
+  unfolding deep
+  tells-past t w u k = tells-as
+      (λ h p l i. ap (λ (i : ℕ). getD s i 0) (omega arith) ∙ h (p - k) (omega arith))
+      (λ h i l. ap (λ (i : ℕ). getD s i 0) (omega arith) ∙ h (k + i) (omega arith) (omega arith))
+      (tells-are (record { reads = λ i. refl }) (n - k) 0)
+
+  -- and all places of all queues of w.
+  tells-block : (t : Table) (w : ℕ) → Tells (allAre s (row n t (w * n)) (n * n) 0) ((u p : ℕ) → u < n → p < n → deep s t w u p ≡ 0)
+  unfolding deep
+  tells-block t w = tells-as
+      (λ h u p lu lp. ap (λ (i : ℕ). getD s i 0) (omega (arith, add-mul (w * n) u n)) ∙ h (u * n + p) (digits-lt lu lp))
+      (λ h i l. let (u, p, lu, lp, e) = digits n i l in ap (λ (i : ℕ). getD s i 0) (omega (arith, add-mul (w * n) u n)) ∙ h u p lu lp)
+      (tells-are (record { reads = λ i. refl }) (n * n) 0)
+
+  tells-sent : (w : ℕ) → Tells (sentSound n s w) ((u : ℕ) → u < n → Sent s w u)
+  unfolding sentSound pastSound get flat
+  tells-sent w = tells-case (tells-are (reads-flat Lengths w) n 0)
+      (λ e. tells-as
+      (λ h u l. record { most = omega (arith, e u l); destinations = λ p k i. h .0 u p l k; values = λ p k i. h .1 u p l k })
+      (λ h. ((λ u p l k. h u l .destinations p k (omega (arith, e u l))), λ u p l k. h u l .values p k (omega (arith, e u l))))
+      (tells-and (tells-block Destinations w) (tells-block Values w)))
+      (λ f. tells-every n (λ u l. tells-as
+      (λ h. record { most = h .0; destinations = h .1 .0; values = h .1 .1 })
+      (λ h. (h .most, (h .destinations, h .values)))
+      (tells-and (tells-le _ n) (tells-and (tells-past Destinations w u _) (tells-past Values w u _)))))
+
+  pub tells-judged : Tells (allSound n s) (Judged s)
+  unfolding allSound nodeSound
+  tells-judged = tells-as
+      (λ h. record { paired = λ u w lu. h u lu .0 w; given = λ u v lu. h u lu .1 .0 v; sent = λ w u lw. h w lw .1 .1 u })
+      (λ h u lu. ((λ w. h .paired u w lu), ((λ v. h .given u v lu), λ w. h .sent u w lu)))
+      (tells-every n (λ u l. tells-and (tells-every n (λ w k. tells-paired u w)) (tells-and (tells-every n (λ v k. tells-given u v)) (tells-sent u))))

@@ -1,0 +1,104 @@
+-- The check as the code makes it is 01's sound. Assumes nothing.
+use mathlib.Core.Path.{_≡_, refl, sym, ap}
+use mathlib.Core.List.{List, []}
+use Prim.Native.Nat.{ℕ, _≤_, _<_}
+use native.Mathlib.Decide.{ℕ-discrete}
+use native.Mathlib.Omega.{arith}
+use lib.ListN.{length}
+use Rattle.hop_rule.specs.declared.Table.the-variants.{Links, Distances, Downstreams, Views, Lengths, Destinations, Values}
+use Rattle.hop_rule.specs.Words.{listed, every}
+use Rattle.hop_rule.specs.State.{Entry}
+use Rattle.hop_rule.specs.Rule.{route}
+use Rattle.hop_rule.specs.Stored.{nodes, flat, deep, read}
+use Rattle.hop_rule.specs.Sound.{SoundBytes, isSoundBytes}
+use Rattle.hop_laws.proofs.Tests.{tells-as, tells-same}
+use Rattle.hop_laws.proofs.Words.{length-listed}
+use Rattle.hop_laws.proofs.Rule.{route-distance-most}
+use Rattle.hop_laws.proofs.Queues.{listed-each}
+use Rattle.hop_laws.proofs.Sound.{sound-bytes-tells}
+use Rattle.hop_sound.specs.Check.{nodeSound, allSound}
+use Rattle.hop_sound.proofs.Listed.{each-at, waits-at, at-waits, differ-at, at-differ}
+use Rattle.hop_sound.proofs.Routes.{given-route, route-given, route-allowed}
+use Rattle.hop_sound.proofs.Judged.{Judged, tells-judged}
+
+listed-none : (k : ℕ) (f : ℕ → Entry) → k ≡ 0 → listed k f ≡ []
+unfolding listed
+listed-none k f e = ap (λ (i : ℕ). listed i f) e
+
+module _ (s : List ℕ) where
+  abbrev n : ℕ
+  n = nodes s
+
+  -- Place p of the queue from w to u.
+  abbrev entry : ℕ → ℕ → ℕ → Entry
+  entry w u p = record { destination = deep s Destinations w u p; value = deep s Values w u p }
+
+  judged-sound : Judged s → SoundBytes s
+  unfolding read
+  judged-sound j = record {
+    state = record {
+      bits = λ u w lu lw. j .paired u w lu lw .bit;
+      symmetric = λ u w lu lw. j .paired u w lu lw .symmetric;
+      diagonal = λ u lu. j .paired u u lu lu .diagonal refl;
+      distances = λ u v lu lv. routed u v lu lv .0;
+      downstreams = λ u v lu lv. routed u v lu lv .1;
+      views = λ u w v lu lw lv. views u w v lu lw lv (ℕ-discrete (flat s Links u w) 1) (ℕ-discrete (flat s Lengths w u) 0);
+      down-views = λ u w v lu lw lv f. j .paired u w lu lw .down-views f v lv;
+      down-queues = λ u w lu lw f. listed-none _ (entry w u) (j .paired u w lu lw .down-queue f);
+      lengths = λ u w lu lw. omega (arith, length-listed (flat s Lengths w u) (entry w u), j .sent w u lw lu .most);
+      differ = λ u w lu lw q. at-differ _ (entry w u) (j .paired u w lu lw .queue q .differ);
+      below = λ u w lu lw q. listed-each _ _ (entry w u) (j .paired u w lu lw .queue q .below);
+      values = λ u w lu lw q. listed-each _ _ (entry w u) (j .paired u w lu lw .queue q .values);
+      heard = λ u w v lu lw lv q f. j .paired u w lu lw .queue q .heard v lv (λ p l e. f (at-waits v _ (entry w u) p l e));
+    };
+    past-destinations = λ w u p lw lu lp k. j .sent w u lw lu .destinations p lp k;
+    past-values = λ w u p lw lu lp k. j .sent w u lw lu .values p lp k;
+  }
+    where
+      routed : (u v : ℕ) → u < n → v < n → (flat s Distances u v ≡ route (read s) u v .distance) × (flat s Downstreams u v ≡ route (read s) u v .downstream)
+      routed u v lu lv = given-route (read s) u v _ _ (λ w lw q. j .paired u w lu lw .allows q v lv) (j .given u v lu lv)
+
+      -- On an up link where nothing waits a view is a distance.
+      views : (u w v : ℕ) → u < n → w < n → v < n → Dec (flat s Links u w ≡ 1) → Dec (flat s Lengths w u ≡ 0) → deep s Views u w v ≤ n
+      views u w v lu lw lv (no f) d = omega (arith, j .paired u w lu lw .down-views f v lv)
+      views u w v lu lw lv (yes q) (no f) = j .paired u w lu lw .queue q .views f v lv
+      views u w v lu lw lv (yes q) (yes e) =
+          omega (arith, j .paired u w lu lw .queue q .heard v lv (λ p l. absurd (omega arith)), routed w v lw lv .0, route-distance-most (read s) w v)
+
+  sound-judged : SoundBytes s → Judged s
+  unfolding read
+  sound-judged o = record {
+    paired = λ u w lu lw. record {
+      bit = o .state .bits u w lu lw;
+      symmetric = o .state .symmetric u w lu lw;
+      diagonal = λ e. rw (← e) (o .state .diagonal u lu);
+      queue = λ q. record {
+        most = most u w lu lw;
+        views = λ f v lv. o .state .views u w v lu lw lv;
+        below = each-at _ _ (entry w u) (o .state .below u w lu lw q);
+        values = each-at _ _ (entry w u) (o .state .values u w lu lw q);
+        differ = differ-at _ (entry w u) (o .state .differ u w lu lw q);
+        heard = λ v lv f. o .state .heard u w v lu lw lv q (λ m. let (p, l, e) = waits-at v _ (entry w u) m in f p l (sym e));
+      };
+      allows = λ q v lv. route-allowed (read s) u v _ _ (o .state .distances u v lu lv) (o .state .downstreams u v lu lv) w lw q;
+      down-views = λ f v lv. o .state .down-views u w v lu lw lv f;
+      down-queue = λ f. omega (arith, length-listed (flat s Lengths w u) (entry w u), ap length (o .state .down-queues u w lu lw f));
+    };
+    given = λ u v lu lv. route-given (read s) u v _ _ (o .state .distances u v lu lv) (o .state .downstreams u v lu lv);
+    sent = λ w u lw lu. record {
+      most = most u w lu lw;
+      destinations = λ p. o .past-destinations w u p lw lu;
+      values = λ p. o .past-values w u p lw lu;
+    };
+  }
+    where
+      most : (u w : ℕ) → u < n → w < n → flat s Lengths w u ≤ n
+      most u w lu lw = omega (arith, length-listed (flat s Lengths w u) (entry w u), o .state .lengths u w lu lw)
+
+  judged : allSound n s ≡ isSoundBytes s
+  judged = tells-same (tells-as judged-sound sound-judged (tells-judged s)) (sound-bytes-tells s)
+
+-- The check is the test of hop_rule, for every buffer whose first byte is n.
+pub sound-known : (n : ℕ) (s : List ℕ) → nodes s ≡ n → every n (nodeSound n s) ≡ isSoundBytes s
+unfolding allSound
+sound-known n s e = rw (← e) (judged s)

@@ -1,0 +1,52 @@
+-- `nodes::routes_sound` meets its contract: every destination passed is sound, or the way out is taken. Assumes nothing.
+use mathlib.Core.Path.{_≡_, sym}
+use mathlib.Core.Bool.{true}
+use Prim.Native.Nat.{_-_, _≤_}
+use native.Mathlib.Omega.{arith}
+use borrow.Author.Needs.{needs}
+use Rattle.hop_rule.specs.Words.{every}
+use Rattle.hop_sound.specs.Check.{routeSound}
+use Rattle.hop_sound.proofs.Every.{fails, passes, every-none, every-stays, every-fails, every-done}
+use Rattle.hop_sound.proofs.nodes.routes_sound.Statement.{statement}
+use Rattle.hop_sound.proofs.nodes.routes_sound.Tie as tie
+
+abbrev Inv-loop : tie.InvT-loop
+Inv-loop s n u v₀ v = (v ≤ n) × (true ≡ every v (routeSound n s u))
+
+abbrev μ-loop : tie.MeasureT-loop
+μ-loop s n u v₀ v = n - v
+
+loop-holds : tie.Need-loop-holds Inv-loop μ-loop
+loop-holds c = (omega arith, sym (every-none _))
+
+route-sound-requires : tie.Need-route-sound-requires Inv-loop μ-loop
+route-sound-requires c κs = search needs
+
+returns : tie.Need-returns Inv-loop μ-loop
+returns c = every-fails _ _ _ (c .before .before .loop-test .taken) (fails (c .before .route-sound .ensures) (c .if1 .taken))
+
+add-v : tie.Need-add-v Inv-loop μ-loop
+add-v c = omega arith
+
+loop-less : tie.Need-loop-less Inv-loop μ-loop
+loop-less c = omega arith
+
+loop-again : tie.Need-loop-again Inv-loop μ-loop
+loop-again c = (omega arith, every-stays _ _ (c .before .before .before .loop .inv .1) (passes (c .before .route-sound .ensures) (c .if1 .left)))
+
+returns-2 : tie.Need-returns-2 Inv-loop μ-loop
+returns-2 c = every-done _ _ _ (c .before .loop .inv .1) (c .before .loop .inv .0) (c .loop-test .left)
+
+pub routes-sound-spec : {M : Type 1} → statement M
+routes-sound-spec =
+    tie.close
+    (tie.spec
+    Inv-loop
+    μ-loop
+    loop-holds
+    route-sound-requires
+    returns
+    add-v
+    loop-less
+    loop-again
+    returns-2)

@@ -1,0 +1,74 @@
+-- The soundness check as the code makes it, row by row. proofs/Sound.antt shows that it is 01's sound. A buyer needs none of it.
+use mathlib.Core.Bool.{Bool, not, _&&_, _||_}
+use mathlib.Core.List.{List}
+use Prim.Native.Nat.{ℕ, _+_, _*_, _-_}
+use lib.Dec.{eqb, ltb, leb}
+use Rattle.hop_rule.specs.declared.Table.{Table}
+use Rattle.hop_rule.specs.declared.Table.the-variants.{Links, Distances, Downstreams, Views, Lengths, Destinations, Values}
+use Rattle.hop_rule.specs.Words.{if_then_else_, every}
+use Rattle.hop_rule.specs.Stored.{start}
+use Rattle.hop_cells.specs.Cells.{get2, get3}
+use Rattle.hop_sound.specs.Rows.{allAre, allBelow, same, differing, allAllow, entriesSound, allHeard}
+
+-- Where row i of a block starts. In a block of n³ the row of a and b is a * n + b.
+abbrev pub row : ℕ → Table → ℕ → ℕ
+row n t i = start n t + i * n
+
+-- The link byte of u and w is 0 or 1, the same at both ends, and 0 on the diagonal.
+unfoldable pub linkSound : ℕ → List ℕ → ℕ → ℕ → Bool
+linkSound n s u w = leb (get2 n Links u w s) 1 && (eqb (get2 n Links u w s) (get2 n Links w u s) && (not (eqb u w) || eqb (get2 n Links u w s) 0))
+
+-- A down link: u's views from w are n, and the queue from w to u is empty.
+unfoldable pub downSound : ℕ → List ℕ → ℕ → ℕ → Bool
+downSound n s u w = eqb (get2 n Lengths w u s) 0 && allAre s (row n Views (u * n + w)) n n
+
+-- An up link: where nothing waits, u's views from w are w's distances,
+unfoldable pub idleSound : ℕ → List ℕ → ℕ → ℕ → Bool
+idleSound n s u w = same s (row n Views (u * n + w)) (row n Distances w) n
+
+-- and where m entries wait, views are at most n, destinations are below n and differ, values are w's distances, and so are the views of what does not wait.
+unfoldable pub busySound : ℕ → List ℕ → ℕ → ℕ → ℕ → Bool
+busySound n s u w m =
+    let views = row n Views (u * n + w) in
+    let distances = row n Distances w in
+    let destinations = row n Destinations (w * n + u) in
+    allBelow s views n (n + 1)
+    && (entriesSound s n distances destinations (row n Values (w * n + u)) m
+    && (differing s destinations m && allHeard s n views distances destinations m))
+
+unfoldable pub queueSound : ℕ → List ℕ → ℕ → ℕ → Bool
+queueSound n s u w =
+    let m = get2 n Lengths w u s in
+    if eqb m 0 then idleSound n s u w else leb m n && busySound n s u w m
+
+-- On an up link u's views from w allow u's routes.
+unfoldable pub upSound : ℕ → List ℕ → ℕ → ℕ → Bool
+upSound n s u w = queueSound n s u w && allAllow s n w (row n Views (u * n + w)) (row n Distances u) (row n Downstreams u)
+
+unfoldable pub pairSound : ℕ → List ℕ → ℕ → ℕ → Bool
+pairSound n s u w = linkSound n s u w && (if eqb (get2 n Links u w s) 1 then upSound n s u w else downSound n s u w)
+
+-- u's route to v: its own is distance 0 by way of u; distance n has no downstream; else the downstream is an up neighbour that gives the distance.
+unfoldable pub routeSound : ℕ → List ℕ → ℕ → ℕ → Bool
+routeSound n s u v =
+    let d = get2 n Distances u v s in
+    let h = get2 n Downstreams u v s in
+    if eqb u v then eqb d 0 && eqb h u else if eqb d n then eqb h 255 else ltb d n && (ltb h n && (eqb (get2 n Links u h s) 1 && eqb (get3 n Views u h v s + 1) d))
+
+-- Places past the length are 0 in both blocks: those of the queue from w to u,
+unfoldable pub pastSound : ℕ → List ℕ → ℕ → ℕ → Bool
+pastSound n s w u =
+    let m = get2 n Lengths w u s in
+    leb m n && (allAre s (row n Destinations (w * n + u) + m) (n - m) 0 && allAre s (row n Values (w * n + u) + m) (n - m) 0)
+
+-- and those of all queues of w at once, where none of them holds anything.
+unfoldable pub sentSound : ℕ → List ℕ → ℕ → Bool
+sentSound n s w =
+    if allAre s (row n Lengths w) n 0 then allAre s (row n Destinations (w * n)) (n * n) 0 && allAre s (row n Values (w * n)) (n * n) 0 else every n (pastSound n s w)
+
+-- Everything that the bytes hold of node u.
+unfoldable pub nodeSound : ℕ → List ℕ → ℕ → Bool
+nodeSound n s u = every n (pairSound n s u) && (every n (routeSound n s u) && sentSound n s u)
+
+unfoldable pub allSound : ℕ → List ℕ → Bool
+allSound n s = every n (nodeSound n s)

@@ -1,0 +1,137 @@
+// What is judged of two nodes u and w: their link, u's views from w, and the queue from w to u.
+
+use crate::places;
+use crate::rows;
+use hop_rule::Table;
+ghost use mathlib.Core.Path.{_≡_};
+ghost use Prim.Native.Nat.{_<_, _≤_};
+ghost use Rattle.hop_rule.specs.Words.{every};
+ghost use Rattle.hop_cells.specs.Cells.{Room};
+ghost use Rattle.hop_sound.specs.Check as check;
+
+// The link byte is 0 or 1, the same at both ends, and 0 on the diagonal.
+fn link_sound(s: &[u8], n: usize, u: usize, w: usize) -> bool
+    requires { ⌜ Room n (now s) × (u < n) × (w < n) ⌝ }
+    ensures { λ r. ⌜ r ≡ check.linkSound n (now (s .entry)) u w ⌝ }
+{
+    let l = hop_cells::get2(s, n, Table::Links, u, w);
+    if 1 < l {
+        return false;
+    }
+    if l != hop_cells::get2(s, n, Table::Links, w, u) {
+        return false;
+    }
+    if u != w {
+        return true;
+    }
+    l == 0
+}
+
+// A down link: u's views from w are n, and the queue is empty.
+fn down_sound(s: &[u8], n: usize, u: usize, w: usize) -> bool
+    requires { ⌜ Room n (now s) × (u < n) × (w < n) ⌝ }
+    ensures { λ r. ⌜ r ≡ check.downSound n (now (s .entry)) u w ⌝ }
+{
+    if hop_cells::get2(s, n, Table::Lengths, w, u) != 0 {
+        return false;
+    }
+    rows::all_are(s, places::row3(n, Table::Views, u, w), n, n as u8)
+}
+
+// An up link where nothing waits: u's views from w are w's distances.
+fn idle_sound(s: &[u8], n: usize, u: usize, w: usize) -> bool
+    requires { ⌜ Room n (now s) × (u < n) × (w < n) ⌝ }
+    ensures { λ r. ⌜ r ≡ check.idleSound n (now (s .entry)) u w ⌝ }
+{
+    rows::same(
+        s,
+        places::row3(n, Table::Views, u, w),
+        places::row2(n, Table::Distances, w),
+        n,
+    )
+}
+
+// An up link where m entries wait.
+fn busy_sound(s: &[u8], n: usize, u: usize, w: usize, m: usize) -> bool
+    requires { ⌜ Room n (now s) × (u < n) × (w < n) × (m ≤ n) ⌝ }
+    ensures { λ r. ⌜ r ≡ check.busySound n (now (s .entry)) u w m ⌝ }
+{
+    let views = places::row3(n, Table::Views, u, w);
+    let distances = places::row2(n, Table::Distances, w);
+    let destinations = places::row3(n, Table::Destinations, w, u);
+    if !rows::all_below(s, views, n, n as u8 + 1) {
+        return false;
+    }
+    if !rows::entries_sound(
+        s,
+        n,
+        distances,
+        destinations,
+        places::row3(n, Table::Values, w, u),
+        m,
+    ) {
+        return false;
+    }
+    if !rows::differing(s, destinations, m) {
+        return false;
+    }
+    rows::all_heard(s, n, views, distances, destinations, m)
+}
+
+fn queue_sound(s: &[u8], n: usize, u: usize, w: usize) -> bool
+    requires { ⌜ Room n (now s) × (u < n) × (w < n) ⌝ }
+    ensures { λ r. ⌜ r ≡ check.queueSound n (now (s .entry)) u w ⌝ }
+{
+    let m = hop_cells::get2(s, n, Table::Lengths, w, u);
+    if m == 0 {
+        return idle_sound(s, n, u, w);
+    }
+    if n < m {
+        return false;
+    }
+    busy_sound(s, n, u, w, m)
+}
+
+// An up link: what waits, and that u's views from w allow u's routes.
+fn up_sound(s: &[u8], n: usize, u: usize, w: usize) -> bool
+    requires { ⌜ Room n (now s) × (u < n) × (w < n) ⌝ }
+    ensures { λ r. ⌜ r ≡ check.upSound n (now (s .entry)) u w ⌝ }
+{
+    if !queue_sound(s, n, u, w) {
+        return false;
+    }
+    let views = places::row3(n, Table::Views, u, w);
+    rows::all_allow(
+        s,
+        n as u8,
+        w as u8,
+        views,
+        places::row2(n, Table::Distances, u),
+        places::row2(n, Table::Downstreams, u),
+    )
+}
+
+fn pair_sound(s: &[u8], n: usize, u: usize, w: usize) -> bool
+    requires { ⌜ Room n (now s) × (u < n) × (w < n) ⌝ }
+    ensures { λ r. ⌜ r ≡ check.pairSound n (now (s .entry)) u w ⌝ }
+{
+    if !link_sound(s, n, u, w) {
+        return false;
+    }
+    if hop_cells::get2(s, n, Table::Links, u, w) == 1 {
+        return up_sound(s, n, u, w);
+    }
+    down_sound(s, n, u, w)
+}
+
+pub fn pairs_sound(s: &[u8], n: usize, u: usize) -> bool
+    requires { ⌜ Room n (now s) × (u < n) ⌝ }
+    ensures { λ r. ⌜ r ≡ every n (check.pairSound n (now (s .entry)) u) ⌝ }
+{
+    for w in 0..n {
+        if !pair_sound(s, n, u, w) {
+            return false;
+        }
+    }
+    true
+}
