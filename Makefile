@@ -1,12 +1,13 @@
-# Needs the Rattle kit (`rt` on the path) and nothing else.
+# Needs the Rattle kit (`rt` on the path), and cargo and a C compiler for the comparison. Nothing is fetched.
 .PHONY: run test
 
-# The main job. Until the program exists this proves the crates.
+# The main job: the program replays the worked script.
 run:
-	@echo 'The program is not built yet: proving the crates in its place.'
-	@rt check
+	@rt check hop_program
+	@target/bin/hop_program < crates/hop_program/stdin
 
-# Every check: the layout of the files, then the gate. The last line is 'N passed, M failed'.
+# Every check: layout, proofs, must-fail edits, programs, and the comparison. The last line is 'N passed, M failed'.
 test:
-	@rt fmt --check
-	@rt ci
+	@tests/gate
+
+include make/harness.mk

@@ -11,7 +11,7 @@ use Rattle.hop_rule.specs.declared.Table.the-variants.{Links, Views}
 use Rattle.hop_rule.specs.State.{State}
 use Rattle.hop_rule.specs.Rule.{least, nearest, route}
 use Rattle.hop_laws.proofs.Tests.{Tells, tells-eq, tells-lt, tells-and, choose-so, choose-else}
-use Rattle.hop_laws.proofs.Rule.{least-most, least-under, Gives, nearest-none, nearest-gives, route-distance-other, route-downstream-other}
+use Rattle.hop_laws.proofs.Rule.{least-most, least-under, nearest-none, nearest-is, route-distance-other, route-downstream-other}
 use Rattle.hop_steps.specs.declared.Best.{Best}
 use Rattle.hop_steps.specs.Steps.{nearer, best}
 use Rattle.hop_bridge.specs.Carries.{Carries}
@@ -25,6 +25,10 @@ record Found (t : State) (u v k : ℕ) (b : Best) : Type 0 where
   linked : b .distance < t .n → t .link u (b .downstream) ≡ 1
   gives : b .distance < t .n → suc (t .view u (b .downstream) v) ≡ b .distance
   lowest : (w : ℕ) → w < k → t .link u w ≡ 1 → suc (t .view u w v) ≡ b .distance → b .distance < t .n → b .downstream ≤ w
+
+-- The route as the code has it.
+abbrev pub found : State → ℕ → ℕ → Best
+found t u v = record { distance = route t u v .distance; downstream = route t u v .downstream }
 
 module _ (t : State) (u v : ℕ) where
   found-none : Found t u v 0 (record { distance = t .n; downstream = 255 })
@@ -84,7 +88,7 @@ module _ (t : State) (u v : ℕ) where
       go (no e) l = rw (choose-else test (record { distance = d; downstream = k }) b (λ z. e (z .0))) (kept (choose-else (tells-eq (t .link u k) 1) _ _ e))
 
   -- What all neighbours give is the route.
-  found-route : (b : Best) → u ≢ v → Found t u v (t .n) b → b ≡ record { distance = route t u v .distance; downstream = route t u v .downstream }
+  found-route : (b : Best) → u ≢ v → Found t u v (t .n) b → b ≡ found t u v
   found-route b f g =
       let d : b .distance ≡ route t u v .distance = g .distance ∙ sym (route-distance-other t u v f) in
       let x : b .downstream ≡ route t u v .downstream = go (ℕ-discrete (b .distance) (t .n)) ∙ ap (nearest t u v) d ∙ sym (route-downstream-other t u v f) in
@@ -94,10 +98,9 @@ module _ (t : State) (u v : ℕ) where
       go (yes e) = g .none e ∙ sym (nearest-none t u v (b .distance) e)
       go (no e) =
           let l : b .distance < t .n = omega (arith, g .distance, least-most t u v (t .n)) in
-          let x : Gives t u v (b .distance) (nearest t u v (b .distance)) = nearest-gives t u v (b .distance) (g .distance) l in
-          omega (arith, x .lowest (b .downstream) (g .below l) (g .linked l) (g .gives l), g .lowest (nearest t u v (b .distance)) (x .below) (x .linked) (x .gives) l)
+          sym (nearest-is t u v (b .distance) (b .downstream) (g .distance) l (record { below = g .below l; linked = g .linked l; gives = g .gives l; lowest = λ w lw q i. g .lowest w lw q i l }))
 
-pub best-route : {n : ℕ} {r s : List ℕ} {t : State} → Carries n r s t → (u v : ℕ) → u < n → v < n → u ≢ v → best n u v s ≡ record { distance = route t u v .distance; downstream = route t u v .downstream }
+pub best-route : {n : ℕ} {r s : List ℕ} {t : State} → Carries n r s t → (u v : ℕ) → u < n → v < n → u ≢ v → best n u v s ≡ found t u v
 unfolding best nearer
 best-route {n} {r} {s} {t} h u v lu lv f =
     let all : Found t u v n (best n u v s) =

@@ -14,7 +14,7 @@ use Rattle.hop_laws.proofs.Rule.{route-distance-own, route-downstream-own}
 use Rattle.hop_laws.proofs.Stored.{flat-at, deep-at, held-stored}
 use Rattle.hop_laws.proofs.Read.{read-holds}
 use Rattle.hop_cells.specs.Cells.{get}
-use Rattle.hop_bridge.specs.Carries.{Tidy, Orderly, Carries}
+use Rattle.hop_bridge.specs.Carries.{Tidy, Orderly, Carries, CarriesSound}
 
 -- A sound state is in order.
 sound-orderly : {t : State} → Sound t → Orderly (t .n) t
@@ -41,6 +41,9 @@ fine-carries s h = record {
     deeps = read-holds s (h .sound) .deeps;
   };
 }
+
+pub fine-sound : (s : List ℕ) → Fine s → CarriesSound (nodes s) (drop (size (nodes s)) s) s (read s)
+fine-sound s h = record { carries = fine-carries s h; sound = h .sound .state }
 
 module _ {n : ℕ} {r s : List ℕ} {t : State} (h : Carries n r s t) where
   in-n : {a : ℕ} → a < t .n → a < n

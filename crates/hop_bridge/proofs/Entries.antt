@@ -3,12 +3,12 @@ use mathlib.Core.Path.{_≡_, refl, sym, ap, subst, _∙_}
 use mathlib.Core.Logic.{inl, inr}
 use mathlib.Core.Bool.{cond}
 use mathlib.Core.List.{List, [], _∷_, _++_}
-use Prim.Native.Nat.{ℕ, zero, suc, _≤_, _<_}
+use Prim.Native.Nat.{ℕ, zero, suc, _+_, _≤_, _<_}
 use native.Mathlib.Decide.{ℕ-discrete}
 use native.Mathlib.Omega.{arith}
 use lib.Dec.{eqb, eqb·suc-zero, eqb·zero-suc, eqb·suc-suc}
-use lib.ListN.{length, getD, set}
-use lib.Seq.{getD-set-same, getD-set-other}
+use lib.ListN.{length, getD, set, drop, length-drop, List·getD-eq-default}
+use lib.Seq.{getD-set-same, getD-set-other, getD-drop}
 use Rattle.hop_rule.specs.State.{Entry}
 use Rattle.hop_rule.specs.Rule.{send}
 use Rattle.hop_rule.specs.Stored.{destinationAt, valueAt}
@@ -19,6 +19,7 @@ use Rattle.hop_laws.proofs.Queues.{send-differ, send-each, differ-most}
 use Rattle.hop_laws.proofs.Read.{destinationAt-getD, valueAt-getD}
 use Rattle.hop_bridge.specs.Carries.{Tidy}
 use Rattle.hop_bridge.proofs.Choice.{cond-on}
+use Rattle.hop_bridge.proofs.Rows.{Moved}
 
 -- ---- places
 
@@ -70,7 +71,30 @@ module _ (q q′ : List Entry) (p c : ℕ) (e : Entry) (is : getD q′ c blank �
   pub valueAt-set : cond (eqb c p) (e .value) (valueAt q c) ≡ valueAt q′ c
   valueAt-set = rw (valueAt-getD q c, valueAt-getD q′ c, is) (cond-on (λ f. f .value) (eqb c p) (e .value) e (getD q c blank) refl)
 
+-- The rows of a queue without its first j entries, of which m stay.
+row-moved : (at : List Entry → ℕ → ℕ) (part : Entry → ℕ) → ((q : List Entry) (p : ℕ) → at q p ≡ part (getD q p blank)) → part blank ≡ 0
+    → (q : List Entry) (j m : ℕ) → length q ≡ m + j → Moved j m (at q) (at (drop j q))
+row-moved at part is none q j m e = record {
+  moved = λ p l. is q (p + j) ∙ ap (λ i. part (getD q i blank)) (let c : p + j ≡ j + p = omega arith in c) ∙ ap part (sym (getD-drop j q p blank)) ∙ sym (is (drop j q) p);
+  ended = λ p l. past (drop j q) p (omega (arith, length-drop j q));
+  free = λ p l. past q p (omega arith);
+}
+  where
+    past : (q : List Entry) (p : ℕ) → length q ≤ p → at q p ≡ 0
+    past q p l = is q p ∙ ap part (List·getD-eq-default q blank l) ∙ none
+
+pub destinations-moved : (q : List Entry) (j m : ℕ) → length q ≡ m + j → Moved j m (destinationAt q) (destinationAt (drop j q))
+destinations-moved = row-moved destinationAt (λ e. e .destination) destinationAt-getD refl
+
+pub values-moved : (q : List Entry) (j m : ℕ) → length q ≡ m + j → Moved j m (valueAt q) (valueAt (drop j q))
+values-moved = row-moved valueAt (λ e. e .value) valueAt-getD refl
+
 -- ---- a tidy queue
+
+pub tidy-drop : {n : ℕ} (j : ℕ) (q : List Entry) → Tidy n q → Tidy n (drop j q)
+tidy-drop zero q y = y
+tidy-drop (suc j) [] y = y
+tidy-drop (suc j) (e ∷ q) y = tidy-drop j q (record { differ = y .differ .1; below = y .below .1 })
 
 module _ {n : ℕ} {q : List Entry} (y : Tidy n q) where
   pub tidy-short : length q ≤ n

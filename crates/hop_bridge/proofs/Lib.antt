@@ -7,6 +7,8 @@ pub mod Entries
 pub mod Send
 pub mod Best
 pub mod Recompute
+pub mod Settle
+pub mod Hear
 pub mod Deliver
 pub mod Links
 pub mod Runs

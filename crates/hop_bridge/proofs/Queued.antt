@@ -2,18 +2,18 @@
 use mathlib.Core.Path.{_≡_, refl, sym, ap}
 use mathlib.Core.Bool.{_&&_}
 use mathlib.Core.List.{List}
-use Prim.Native.Nat.{ℕ, suc, _+_, _≤_, _<_}
+use Prim.Native.Nat.{ℕ, _+_, _≤_, _<_}
 use native.Mathlib.Omega.{arith}
 use lib.Dec.{eqb}
 use Rattle.hop_rule.specs.declared.Table.the-variants.{Distances, Lengths, Destinations, Values}
 use Rattle.hop_rule.specs.Words.{loop}
 use Rattle.hop_cells.specs.Cells.{put2, put3}
 use Rattle.hop_cells.proofs.Places.{rank}
-use Rattle.hop_queues.specs.Queues.{fill, join, moveUp, takeHead, offer, offerAll, empty}
+use Rattle.hop_queues.specs.Queues.{fill, join, moveUp, takeFirst, offer, offerAll, empty}
 use Rattle.hop_bridge.specs.Carries.{Flats, Deeps, Filled}
 use Rattle.hop_bridge.proofs.Choice.{cond-twice}
 use Rattle.hop_bridge.proofs.Filled.{same, cellSet, rowSet, placeSet, filled-as, filled-put2, filled-put3, cell-set, row-set, row-as, row-swap}
-use Rattle.hop_bridge.proofs.Rows.{loop-reaches, upto, upto-none, upto-more, upto-all, fill-row, moveUp-row}
+use Rattle.hop_bridge.proofs.Rows.{loop-reaches, upto, upto-none, upto-more, upto-all, Moved, fill-row, moveUp-row}
 
 -- The cells are F and D, but for the queue from w to u: its length byte is m, its destinations are f, its values g.
 pub record Queued (n : ℕ) (r s : List ℕ) (F : Flats) (D : Deeps) (w u m : ℕ) (f g : ℕ → ℕ) : Type 0 where
@@ -61,12 +61,11 @@ module _ {n : ℕ} {r s : List ℕ} {F : Flats} {D : Deeps} {w u m : ℕ} {f g :
   unfolding join
   join-queued v d p lp = put-length (put-value (put-destination h lw lu p v lp) lw lu p d lp) lw lu (p + 1)
 
-  -- f′ and g′ are f and g without their heads, and end at k.
-  pub takeHead-queued : (k : ℕ) (f′ g′ : ℕ → ℕ) → k < n → ((p : ℕ) → f (suc p) ≡ f′ p) → ((p : ℕ) → k ≤ p → f′ p ≡ 0) → ((p : ℕ) → g (suc p) ≡ g′ p) → ((p : ℕ) → k ≤ p → g′ p ≡ 0) → Queued n r (takeHead n w u k s) F D w u k f′ g′
-  unfolding takeHead
-  takeHead-queued k f′ g′ l e z e′ z′ =
-      let up : Queued n r (moveUp n Destinations w u k s) F D w u m f′ g = values-top (moveUp-row (rowSet D Values w u g) Destinations w u f (destinations-top h) tt lw lu k f′ l e z) in
-      let both : Queued n r (moveUp n Values w u k (moveUp n Destinations w u k s)) F D w u m f′ g′ = record { filled = moveUp-row (rowSet D Destinations w u f′) Values w u g (up .filled) tt lw lu k g′ l e′ z′ } in
+  pub takeFirst-queued : (j k : ℕ) (f′ g′ : ℕ → ℕ) → k + j ≤ n → Moved j k f f′ → Moved j k g g′ → Queued n r (takeFirst n w u j k s) F D w u k f′ g′
+  unfolding takeFirst
+  takeFirst-queued j k f′ g′ l e z =
+      let up : Queued n r (moveUp n Destinations w u j k s) F D w u m f′ g = values-top (moveUp-row (rowSet D Values w u g) Destinations w u f (destinations-top h) tt lw lu j k f′ l e) in
+      let both : Queued n r (moveUp n Values w u j k (moveUp n Destinations w u j k s)) F D w u m f′ g′ = record { filled = moveUp-row (rowSet D Destinations w u f′) Values w u g (up .filled) tt lw lu j k g′ l z } in
       put-length both lw lu k
 
   pub empty-queued : Queued n r (empty n w u s) F D w u 0 (λ c. 0) (λ c. 0)

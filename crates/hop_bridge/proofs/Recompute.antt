@@ -15,7 +15,6 @@ use Rattle.hop_laws.specs.Same.{Same}
 use Rattle.hop_laws.proofs.Tests.{Tells, decides, tells-eq, tells-lt, tells-and, choose-so, choose-else}
 use Rattle.hop_laws.proofs.Rule.{route-distance-own, route-downstream-own, recompute-queue-other}
 use Rattle.hop_queues.specs.Queues as bytes
-use Rattle.hop_steps.specs.declared.Best.{Best}
 use Rattle.hop_steps.specs.Steps.{up, store, tellOne, tell, recompute}
 use Rattle.hop_bridge.specs.Carries.{Carries}
 use Rattle.hop_bridge.specs.Parts.{withRoute, withQueue, withSent}
@@ -23,7 +22,7 @@ use Rattle.hop_bridge.proofs.Choice.{cond-idle}
 use Rattle.hop_bridge.proofs.Rows.{loop-reaches}
 use Rattle.hop_bridge.proofs.Carries.{same-queues, carries-same, store-carries}
 use Rattle.hop_bridge.proofs.Send.{send-carries}
-use Rattle.hop_bridge.proofs.Best.{best-route}
+use Rattle.hop_bridge.proofs.Best.{found, best-route}
 
 -- ---- telling
 
@@ -91,31 +90,37 @@ module _ {n : ℕ} {r s : List ℕ} {t : State} (h : Carries n r s t) (u v : ℕ
   abbrev placed : State
   placed = withRoute t u v (new .distance) (new .downstream)
 
-  -- A node itself: nothing changes.
-  own : u ≡ v → Same t (rule.recompute t u v)
+  -- Nothing changes,
+  unchanged : new .distance ≡ t .distance u v → new .downstream ≡ t .downstream u v → Same t (rule.recompute t u v)
   unfolding rule.recompute
-  own e = record {
+  unchanged d x = record {
     n = refl;
     link = λ a b la lb. refl;
-    distance = λ a c la lc. sym (cond-idle (eqb a u && eqb c v) (new .distance) (t .distance a c) (λ i. let at = here a c .shows i in rw (at .0, at .1) same-distance));
-    downstream = λ a c la lc. sym (cond-idle (eqb a u && eqb c v) (new .downstream) (t .downstream a c) (λ i. let at = here a c .shows i in rw (at .0, at .1) same-downstream));
+    distance = λ a c la lc. sym (cond-idle (eqb a u && eqb c v) (new .distance) (t .distance a c) (λ i. let at = here a c .shows i in rw (at .0, at .1) d));
+    downstream = λ a c la lc. sym (cond-idle (eqb a u && eqb c v) (new .downstream) (t .downstream a c) (λ i. let at = here a c .shows i in rw (at .0, at .1) x));
     view = λ a b c la lb lc. refl;
-    queue = λ a b la lb. sym (recompute-queue-other t u v a b (λ i j. same-distance));
+    queue = λ a b la lb. sym (recompute-queue-other t u v a b (λ i j. d));
   }
     where
       here : (a c : ℕ) → Tells (eqb a u && eqb c v) ((a ≡ u) × (c ≡ v))
       here a c = tells-and (tells-eq a u) (tells-eq c v)
 
-      same-distance : new .distance ≡ t .distance u v
-      same-distance = route-distance-own t u v e ∙ sym (h .orderly .own-distance u lu) ∙ ap (t .distance u) e
+  pub unchanged-carries : rule.route t u v .distance ≡ t .distance u v → rule.route t u v .downstream ≡ t .downstream u v → Carries n r s (rule.recompute t u v)
+  unchanged-carries d x = carries-same h (rule.recompute t u v) (unchanged d x)
 
-      same-downstream : new .downstream ≡ t .downstream u v
-      same-downstream = route-downstream-own t u v e ∙ sym (h .orderly .own-downstream u lu) ∙ ap (t .downstream u) e
+  -- as for a node itself.
+  pub own-carries : u ≡ v → Carries n r s (rule.recompute t u v)
+  own-carries e =
+      unchanged-carries (route-distance-own t u v e ∙ sym (h .orderly .own-distance u lu) ∙ ap (t .distance u) e)
+      (route-downstream-own t u v e ∙ sym (h .orderly .own-downstream u lu) ∙ ap (t .downstream u) e)
 
   -- The distance stays: nothing is sent.
   kept : new .distance ≡ t .distance u v → Same placed (rule.recompute t u v)
   unfolding rule.recompute withRoute
   kept e = same-queues placed _ _ (λ a b la lb. sym (recompute-queue-other t u v a b (λ i j. e)))
+
+  pub kept-carries : u ≢ v → rule.route t u v .distance ≡ t .distance u v → Carries n r (store n u v (found t u v) s) (rule.recompute t u v)
+  kept-carries f e = carries-same (store-carries h u v (found t u v) lu lv f) (rule.recompute t u v) (kept e)
 
   -- It changes: it is sent on each up link.
   changed : new .distance ≢ t .distance u v → Same (withSent placed u (record { destination = v; value = new .distance }) n) (rule.recompute t u v)
@@ -126,25 +131,24 @@ module _ {n : ℕ} {r s : List ℕ} {t : State} (h : Carries n r s t) (u v : ℕ
       and-true true = refl
       and-true false = refl
 
+  pub changed-carries : u ≢ v → rule.route t u v .distance ≢ t .distance u v → Carries n r (tell n u v (rule.route t u v .distance) (store n u v (found t u v) s)) (rule.recompute t u v)
+  unfolding withRoute
+  changed-carries f e = carries-same (tell-carries (store-carries h u v (found t u v) lu lv f) u v (new .distance) lu lv) (rule.recompute t u v) (changed e)
+
   pub recompute-carries : Carries n r (recompute n u v s) (rule.recompute t u v)
   unfolding recompute
   recompute-carries = go (ℕ-discrete u v)
     where
-      found : Best
-      found = record { distance = new .distance; downstream = new .downstream }
-
       after : List ℕ
-      after = store n u v found s
+      after = store n u v (found t u v) s
 
       told : List ℕ
       told = tell n u v (new .distance) after
 
-      sent : Carries n r after placed → Dec (new .distance ≡ t .distance u v) → Carries n r (cond (eqb (new .distance) (t .distance u v)) after told) (rule.recompute t u v)
-      sent g (yes e) = rw (choose-so (tells-eq (new .distance) (t .distance u v)) after told e) (carries-same g (rule.recompute t u v) (kept e))
-      sent g (no e) = rw (choose-else (tells-eq (new .distance) (t .distance u v)) after told e) (carries-same (tell-carries g u v (new .distance) lu lv) (rule.recompute t u v) (changed e))
+      sent : u ≢ v → Dec (new .distance ≡ t .distance u v) → Carries n r (cond (eqb (new .distance) (t .distance u v)) after told) (rule.recompute t u v)
+      sent f (yes e) = rw (choose-so (tells-eq (new .distance) (t .distance u v)) after told e) (kept-carries f e)
+      sent f (no e) = rw (choose-else (tells-eq (new .distance) (t .distance u v)) after told e) (changed-carries f e)
 
       go : Dec (u ≡ v) → Carries n r (recompute n u v s) (rule.recompute t u v)
-      go (yes e) = rw (choose-so (tells-eq u v) s _ e) (carries-same h (rule.recompute t u v) (own e))
-      go (no f) =
-          rw (choose-else (tells-eq u v) s _ f, best-route h u v lu lv f, h .filled .flats Distances tt u v lu lv)
-          (sent (store-carries h u v found lu lv f) (ℕ-discrete (new .distance) (t .distance u v)))
+      go (yes e) = rw (choose-so (tells-eq u v) s _ e) (own-carries e)
+      go (no f) = rw (choose-else (tells-eq u v) s _ f, best-route h u v lu lv f, h .filled .flats Distances tt u v lu lv) (sent f (ℕ-discrete (new .distance) (t .distance u v)))

@@ -1,12 +1,11 @@
--- A loop that writes the places 0, 1, .. m − 1 of a row: filling it, and moving it up by one. Assumes nothing.
+-- A loop that writes the places 0, 1, .. m − 1 of a row: filling it, and moving it up. Assumes nothing.
 use mathlib.Core.Path.{_≡_, refl, sym, ap, _∙_}
 use mathlib.Core.Logic.{_⊎_, inl, inr}
 use mathlib.Core.Bool.{cond, _||_}
 use mathlib.Core.List.{List}
 use Prim.Native.Nat.{ℕ, zero, suc, _+_, _≤_, _<_}
-use native.Mathlib.Nat.{le-refl}
+use native.Mathlib.Nat.{le-refl, add-zero}
 use native.Mathlib.Decide.{ℕ-discrete, decLt}
-use native.Mathlib.Numerals.{add-one}
 use native.Mathlib.Omega.{arith}
 use lib.Dec.{eqb, ltb}
 use borrow.Author.Tests.{eqb-true}
@@ -15,7 +14,7 @@ use Rattle.hop_rule.specs.Words.{loop}
 use Rattle.hop_laws.specs.Holds.{Deep}
 use Rattle.hop_laws.proofs.Tests.{tells-eq, tells-lt, tells-or, tells-as, tells-same, choose-so, choose-else}
 use Rattle.hop_cells.specs.Cells.{get3, put3}
-use Rattle.hop_queues.specs.Queues.{fill, shift, moveUp}
+use Rattle.hop_queues.specs.Queues.{fill, shift, clear, moveUp}
 use Rattle.hop_bridge.specs.Carries.{Flats, Deeps, Filled}
 use Rattle.hop_bridge.proofs.Choice.{cond-either}
 use Rattle.hop_bridge.proofs.Filled.{rowSet, placeSet, filled-put3, row-as, row-get}
@@ -55,6 +54,12 @@ module _ {A : Type 0} (h f : ℕ → A) where
   pub upto-all : (m c : ℕ) → c < m → upto m h f c ≡ h c
   upto-all m c l = choose-so (tells-lt c m) (h c) (f c) l
 
+-- g is f without its first j places: m stay, and behind them there is nothing.
+pub record Moved (j m : ℕ) (f g : ℕ → ℕ) : Type 0 where
+  pub moved : (p : ℕ) → p < m → f (p + j) ≡ g p
+  pub ended : (p : ℕ) → m ≤ p → g p ≡ 0
+  pub free : (p : ℕ) → m + j ≤ p → f p ≡ 0
+
 module _ {n : ℕ} {r s : List ℕ} {F : Flats} (D : Deeps) (k : Table) (u w : ℕ) (f : ℕ → ℕ) (given : Filled n r s F (rowSet D k u w f)) (d : Deep k) (lu : u < n) (lw : w < n) where
   row-loop : (m : ℕ) (h : ℕ → ℕ) (turn : ℕ → List ℕ → List ℕ) → m ≤ n
       → ((p : ℕ) (t : List ℕ) → p < m → Filled n r t F (rowSet D k u w (upto p h f)) → turn p t ≡ put3 n k u w p (h p) t)
@@ -68,19 +73,26 @@ module _ {n : ℕ} {r s : List ℕ} {F : Flats} (D : Deeps) (k : Table) (u w : �
   unfolding fill
   fill-row x = row-as D k u w (upto n (λ c. x) f) (λ c. x) (row-loop n (λ c. x) (λ c. put3 n k u w c x) (le-refl n) (λ p t l g. refl)) (λ c lc. upto-all (λ c. x) f n c lc)
 
-  -- The head leaves, the m places behind it move up, and the place that falls free is 0: where g is f without its head, and ends at m.
-  pub moveUp-row : (m : ℕ) (g : ℕ → ℕ) → m < n → ((p : ℕ) → f (suc p) ≡ g p) → ((p : ℕ) → m ≤ p → g p ≡ 0) → Filled n r (moveUp n k u w m s) F (rowSet D k u w g)
-  unfolding moveUp shift
-  moveUp-row m g l e z =
-      row-as D k u w (placeSet m 0 (upto m g f)) g
-      (filled-put3 D k u w (upto m g f) (row-loop m g (shift n k u w) (omega arith) (λ p t lp h. ap (λ x. put3 n k u w p x t) (next p t lp h))) d lu lw m 0 l)
-      (λ c lc. moved c (ℕ-discrete c m) (decLt c m))
+  pub moveUp-row : (j m : ℕ) (g : ℕ → ℕ) → m + j ≤ n → Moved j m f g → Filled n r (moveUp n k u w j m s) F (rowSet D k u w g)
+  unfolding moveUp shift clear
+  moveUp-row j m g l v =
+      row-as D k u w (upto (m + j) g f) g
+      (loop-reaches (λ i t. Filled n r t F (rowSet D k u w (upto (m + i) g f))) j (λ p. put3 n k u w (m + p) 0) _ (rw (add-zero m) shifted)
+      (λ i t li h. row-as D k u w (placeSet (m + i) 0 (upto (m + i) g f)) (upto (m + suc i) g f) (filled-put3 D k u w (upto (m + i) g f) h d lu lw (m + i) 0 (omega arith)) (λ c lc. freed i c)))
+      (λ c lc. all c (decLt c (m + j)))
     where
-      next : (p : ℕ) (t : List ℕ) → p < m → Filled n r t F (rowSet D k u w (upto p g f)) → get3 n k u w (p + 1) t ≡ g p
-      next p t lp h = row-get D k u w (upto p g f) h d lu lw (p + 1) (omega arith) ∙ choose-else (tells-lt (p + 1) p) (g (p + 1)) (f (p + 1)) (λ x. omega arith) ∙ rw (add-one p) (e p)
+      next : (p : ℕ) (t : List ℕ) → p < m → Filled n r t F (rowSet D k u w (upto p g f)) → get3 n k u w (p + j) t ≡ g p
+      next p t lp h = row-get D k u w (upto p g f) h d lu lw (p + j) (omega arith) ∙ choose-else (tells-lt (p + j) p) (g (p + j)) (f (p + j)) (λ x. omega arith) ∙ v .moved p lp
 
-      moved : (c : ℕ) → Dec (c ≡ m) → Dec (c < m) → placeSet m 0 (upto m g f) c ≡ g c
-      moved c (yes i) b = choose-so (tells-eq c m) 0 _ i ∙ sym (z c (omega arith))
-      moved c (no i) (yes b) = choose-else (tells-eq c m) 0 _ i ∙ choose-so (tells-lt c m) (g c) (f c) b
-      moved zero (no i) (no b) = absurd (omega arith)
-      moved (suc c) (no i) (no b) = choose-else (tells-eq (suc c) m) 0 _ i ∙ choose-else (tells-lt (suc c) m) (g (suc c)) (f (suc c)) b ∙ e c ∙ z c (omega arith) ∙ sym (z (suc c) (omega arith))
+      shifted : Filled n r (loop m (shift n k u w j) s) F (rowSet D k u w (upto m g f))
+      shifted = row-loop m g (shift n k u w j) (omega arith) (λ p t lp h. ap (λ x. put3 n k u w p x t) (next p t lp h))
+
+      freed : (i c : ℕ) → placeSet (m + i) 0 (upto (m + i) g f) c ≡ upto (m + suc i) g f c
+      freed i c =
+          ap (λ x. cond (eqb c (m + i)) x (upto (m + i) g f c)) (sym (v .ended (m + i) (omega arith)))
+          ∙ upto-more g f (m + i) c
+          ∙ (let e : suc (m + i) ≡ m + suc i = omega arith in ap (λ x. upto x g f c) e)
+
+      all : (c : ℕ) → Dec (c < m + j) → upto (m + j) g f c ≡ g c
+      all c (yes b) = upto-all g f (m + j) c b
+      all c (no b) = choose-else (tells-lt c (m + j)) (g c) (f c) b ∙ v .free c (omega arith) ∙ sym (v .ended c (omega arith))

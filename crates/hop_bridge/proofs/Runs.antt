@@ -11,10 +11,10 @@ use Rattle.hop_rule.specs.State.{State}
 use Rattle.hop_rule.specs.Rule as rule
 use Rattle.hop_laws.proofs.Words.{loop-both, sum-same, first-same}
 use Rattle.hop_cells.specs.Cells.{get2}
-use Rattle.hop_steps.specs.Steps.{deliver}
-use Rattle.hop_runs.specs.Runs.{drain, passFrom, pass, waitingFor, waitingFrom, queued, reached, passes, made, delivered}
-use Rattle.hop_bridge.specs.Carries.{Carries}
-use Rattle.hop_bridge.proofs.Deliver.{deliver-carries}
+use Rattle.hop_steps.specs.Steps.{drain}
+use Rattle.hop_runs.specs.Runs.{passFrom, pass, waitingFor, waitingFrom, queued, reached, passes, made, delivered}
+use Rattle.hop_bridge.specs.Carries.{Carries, CarriesSound}
+use Rattle.hop_bridge.proofs.Deliver.{drain-sound}
 
 -- ---- counts
 
@@ -40,26 +40,27 @@ module _ {n : ℕ} {r s : List ℕ} {t : State} (h : Carries n r s t) where
       sum-same n _ (λ v. cond (not (eqb v u) && ltb (t .distance u v) n) 1 0) (λ v lv. rw (h .filled .flats Distances tt u v lu lv))
       ∙ ap (λ m. sum m (λ v. cond (not (eqb v u) && ltb (t .distance u v) m) 1 0)) (sym (h .orderly .count))
 
-  -- ---- passes
+-- ---- passes
 
+module _ {n : ℕ} {r s : List ℕ} {t : State} (h : CarriesSound n r s t) where
   -- The lengths are those at the pass's start.
-  pub pass-carries : Carries n r (pass n s) (rule.pass t)
-  unfolding pass passFrom drain rule.pass
-  pass-carries =
-      subst (λ m. Carries n r (pass n s) (loop m (λ w. loop m (λ u. loop (length (t .queue w u)) (λ i y. rule.deliver y w u))) t)) (sym (h .orderly .count))
-      (loop-both (Carries n r) n (passFrom n s) (λ w. loop n (λ u. loop (length (t .queue w u)) (λ i y. rule.deliver y w u))) s t h (λ w x y lw k.
-      loop-both (Carries n r) n (λ u. drain n w u (get2 n Lengths w u s)) (λ u. loop (length (t .queue w u)) (λ i y. rule.deliver y w u)) x y k (λ u x y lu k.
-      rw (lengths w u lw lu) (loop-both (Carries n r) (length (t .queue w u)) (λ i. deliver n w u) (λ i y. rule.deliver y w u) x y k (λ i x y li k. deliver-carries k w u lw lu)))))
+  pub pass-sound : CarriesSound n r (pass n s) (rule.pass t)
+  unfolding pass passFrom rule.pass
+  pass-sound =
+      subst (λ m. CarriesSound n r (pass n s) (loop m (λ w. loop m (λ u. loop (length (t .queue w u)) (λ i y. rule.deliver y w u))) t)) (sym (h .carries .orderly .count))
+      (loop-both (CarriesSound n r) n (passFrom n s) (λ w. loop n (λ u. loop (length (t .queue w u)) (λ i y. rule.deliver y w u))) s t h (λ w x y lw k.
+      loop-both (CarriesSound n r) n (λ u. drain n w u (get2 n Lengths w u s)) (λ u. loop (length (t .queue w u)) (λ i y. rule.deliver y w u)) x y k (λ u x y lu k.
+      rw (lengths (h .carries) w u lw lu) (drain-sound k w u lw lu (length (t .queue w u))))))
 
-module _ {n : ℕ} {r s : List ℕ} {t : State} (h : Carries n r s t) where
-  pub passes-carries : (k : ℕ) → Carries n r (passes n k s) (rule.passes t k)
+module _ {n : ℕ} {r s : List ℕ} {t : State} (h : CarriesSound n r s t) where
+  pub passes-sound : (k : ℕ) → CarriesSound n r (passes n k s) (rule.passes t k)
   unfolding passes rule.passes
-  passes-carries k = loop-both (Carries n r) k (λ i. pass n) (λ i. rule.pass) s t h (λ i x y l g. pass-carries g)
+  passes-sound k = loop-both (CarriesSound n r) k (λ i. pass n) (λ i. rule.pass) s t h (λ i x y l g. pass-sound g)
 
   pub made-is : (k : ℕ) → made n k s ≡ rule.made t k
   unfolding made rule.made
-  made-is k = first-same k _ _ (λ j l. ap (λ x. eqb x 0) (queued-is (passes-carries j)))
+  made-is k = first-same k _ _ (λ j l. ap (λ x. eqb x 0) (queued-is (passes-sound j .carries)))
 
   pub delivered-is : (k : ℕ) → delivered n k s ≡ rule.delivered t k
   unfolding delivered rule.delivered
-  delivered-is k = sum-same k _ _ (λ j l. queued-is (passes-carries j))
+  delivered-is k = sum-same k _ _ (λ j l. queued-is (passes-sound j .carries))

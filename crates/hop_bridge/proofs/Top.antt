@@ -13,38 +13,17 @@ use Rattle.hop_laws.proofs.Words.{length-listed}
 use Rattle.hop_cells.specs.Cells.{get, get2}
 use Rattle.hop_steps.specs.Steps.{up, deliver, linkUp, linkDown, make}
 use Rattle.hop_runs.specs.Runs.{pass, waitingFor, waitingFrom, queued, reached, passes, made, delivered, ran, run}
-use Rattle.hop_bridge.proofs.Deliver.{deliver-carries}
+use Rattle.hop_bridge.proofs.Deliver.{deliver-sound}
 use Rattle.hop_bridge.proofs.Links.{linkUp-carries, linkDown-carries}
-use Rattle.hop_bridge.proofs.Runs.{waitingFor-is, waitingFrom-is, queued-is, reached-is, pass-carries, passes-carries, made-is, delivered-is}
+use Rattle.hop_bridge.proofs.Runs.{waitingFor-is, waitingFrom-is, queued-is, reached-is, pass-sound, passes-sound, made-is, delivered-is}
 use Rattle.hop_bridge.proofs.Fresh.{make-carries}
-use Rattle.hop_bridge.proofs.Door.{fine-carries, carried-restored}
+use Rattle.hop_bridge.proofs.Door.{fine-carries, fine-sound, carried-restored}
 
 -- ---- making a state
 
 -- Making writes a fresh state over any bytes.
 pub make-stored : (n : ℕ) (s : List ℕ) → n ≤ 40 → size n ≤ length s → make n s ≡ restored (rule.fresh n) s
 make-stored n s most fits = carried-restored s (make-carries n s (record { most = most; fits = fits }))
-
--- ---- reading a state
-
-module _ (s : List ℕ) where
-  -- A node's end of a link, its distances and its downstreams are read as they stand,
-  pub up-read : (u w : ℕ) → up (nodes s) u w s ≡ rule.up (read s) u w
-  unfolding read flat get
-  up-read u w = refl
-
-  pub distance-read : (u v : ℕ) → get2 (nodes s) Distances u v s ≡ read s .distance u v
-  unfolding read flat get
-  distance-read u v = refl
-
-  pub downstream-read : (u v : ℕ) → get2 (nodes s) Downstreams u v s ≡ read s .downstream u v
-  unfolding read flat get
-  downstream-read u v = refl
-
-  -- and a queue is as long as its length byte says.
-  pub length-read : (w u : ℕ) → get2 (nodes s) Lengths w u s ≡ length (read s .queue w u)
-  unfolding read flat get
-  length-read w u = sym (length-listed _ _)
 
 module _ (s : List ℕ) (fine : Fine s) where
   -- ---- counting
@@ -66,7 +45,7 @@ module _ (s : List ℕ) (fine : Fine s) where
 
   -- A delivery from w to u, also from an empty queue or over a down link.
   pub deliver-stored : (w u : ℕ) → w < nodes s → u < nodes s → deliver (nodes s) w u s ≡ restored (rule.deliver (read s) w u) s
-  deliver-stored w u lw lu = carried-restored s (deliver-carries (fine-carries s fine) w u lw lu)
+  deliver-stored w u lw lu = carried-restored s (deliver-sound (fine-sound s fine) w u lw lu .carries)
 
   -- A link comes up,
   pub linkUp-stored : (a b : ℕ) → a < nodes s → b < nodes s → linkUp (nodes s) a b s ≡ restored (rule.linkUp (read s) a b) s
@@ -78,17 +57,17 @@ module _ (s : List ℕ) (fine : Fine s) where
 
   -- A pass; it delivers what was queued at its start, which is `queued-read`.
   pub pass-stored : pass (nodes s) s ≡ restored (rule.pass (read s)) s
-  pass-stored = carried-restored s (pass-carries (fine-carries s fine))
+  pass-stored = carried-restored s (pass-sound (fine-sound s fine) .carries)
 
   -- k passes, how many of an allowance k are made, and what k passes deliver.
   pub passes-stored : (k : ℕ) → passes (nodes s) k s ≡ restored (rule.passes (read s) k) s
-  passes-stored k = carried-restored s (passes-carries (fine-carries s fine) k)
+  passes-stored k = carried-restored s (passes-sound (fine-sound s fine) k .carries)
 
   pub made-read : (k : ℕ) → made (nodes s) k s ≡ rule.made (read s) k
-  made-read = made-is (fine-carries s fine)
+  made-read = made-is (fine-sound s fine)
 
   pub delivered-read : (k : ℕ) → delivered (nodes s) k s ≡ rule.delivered (read s) k
-  delivered-read = delivered-is (fine-carries s fine)
+  delivered-read = delivered-is (fine-sound s fine)
 
   -- A run with allowance k: the bytes that it leaves, and its two answers.
   pub run-stored : (k : ℕ) → run (nodes s) k s ≡ restored (rule.passes (read s) (rule.made (read s) k)) s

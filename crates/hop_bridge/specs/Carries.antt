@@ -1,4 +1,4 @@
--- Bytes carry a state of n nodes and then the bytes r, the state being in order. Order is less than soundness: it also holds in the middle of an event, and it is all that the code relies on. Used by every law of this crate.
+-- Bytes carry a state of n nodes and then the bytes r, the state being in order. Order is less than soundness: it also holds in the middle of an event, and it is all that the code relies on there. Used by every law of this crate.
 use mathlib.Core.Path.{_≡_}
 use mathlib.Core.List.{List}
 use Prim.Native.Nat.{ℕ, _<_}
@@ -6,7 +6,7 @@ use lib.ListN.{drop}
 use Rattle.hop_rule.specs.declared.Table.{Table}
 use Rattle.hop_rule.specs.State.{State, Entry}
 use Rattle.hop_rule.specs.Stored.{size, nodes}
-use Rattle.hop_rule.specs.Sound.{Differ, Each}
+use Rattle.hop_rule.specs.Sound.{Differ, Each, Sound}
 use Rattle.hop_laws.specs.Holds.{Flat, Deep, flatOf, deepOf}
 use Rattle.hop_cells.specs.Cells.{Room, get2, get3}
 
@@ -40,3 +40,8 @@ pub record Orderly (n : ℕ) (t : State) : Type 0 where
 pub record Carries (n : ℕ) (r s : List ℕ) (t : State) : Type 0 where
   pub orderly : Orderly n t
   pub filled : Filled n r s (flatOf t) (deepOf t)
+
+-- A sound state is carried, as it is between events: a delivery relies on it.
+pub record CarriesSound (n : ℕ) (r s : List ℕ) (t : State) : Type 0 where
+  pub carries : Carries n r s t
+  pub sound : Sound t

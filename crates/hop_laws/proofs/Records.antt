@@ -216,8 +216,8 @@ read-written e before after =
     })
 
 module _ (s : List ℕ) (p : ℕ) {e : Event} {q : ℕ} (found : readEvent s p ≡ Found e q) where
-  pub found-place : (p ≤ q) × (q ≤ length s)
-  found-place = let h = found-reads s p found in (omega arith, h .fits)
+  pub found-place : (p + 4 ≤ q) × (q ≤ length s)
+  found-place = let h = found-reads s p found in (omega (arith, h .next, length-record e), h .fits)
 
   module _ (bytes : (i : ℕ) → i < length s → getD s i 0 < 256) where
     pub written-read : take (q - p) (drop p s) ≡ eventRecord e

@@ -146,6 +146,12 @@ nearest-gives s u v d e l = rw (choose-else (tells-eq d (s .n)) 255 x (λ i. ome
         let o = tells-offer s u v d x .shows (first-passes (s .n) p b) in
         record { below = b; linked = o .0; gives = o .1; lowest = λ y ly qy gy. not-past y (qy, gy) (decLt y x) }
 
+-- There is one such neighbour only.
+pub nearest-is : (s : State) (u v d x : ℕ) → d ≡ least s u v (s .n) → d < s .n → Gives s u v d x → nearest s u v d ≡ x
+nearest-is s u v d x e l g =
+    let h = nearest-gives s u v d e l in
+    omega (arith, h .lowest x (g .below) (g .linked) (g .gives), g .lowest (nearest s u v d) (h .below) (h .linked) (h .gives))
+
 nearest-alike : (s t : State) (u v d : ℕ) → d ≤ s .n → t .n ≡ s .n → Keeps s t u v → Keeps t s u v → nearest t u v d ≡ nearest s u v d
 unfolding nearest
 nearest-alike s t u v d l e h k = go (t .n) e

@@ -80,11 +80,12 @@ stored-same s t e = same.stored-same e
 pub read-written : (e : Event) (before after : List ℕ) → readEvent (before ++ (eventRecord e ++ after)) (length before) ≡ Found e (length before + length (eventRecord e))
 read-written e before after = records.read-written e before after
 
--- What reading finds in bytes is the record of the event that it names, and lies within them: an event has one record only.
+-- What reading finds in bytes is the record of the event that it names: an event has one record only.
 pub written-read : (s : List ℕ) (p : ℕ) (e : Event) (q : ℕ) → readEvent s p ≡ Found e q → ((i : ℕ) → i < length s → getD s i 0 < 256) → take (q - p) (drop p s) ≡ eventRecord e
 written-read s p e q found all-bytes = records.written-read s p found all-bytes
 
-pub found-place : (s : List ℕ) (p : ℕ) (e : Event) (q : ℕ) → readEvent s p ≡ Found e q → (p ≤ q) × (q ≤ length s)
+-- A record that is found has four bytes at least, and ends within the bytes.
+pub found-place : (s : List ℕ) (p : ℕ) (e : Event) (q : ℕ) → readEvent s p ≡ Found e q → (p + 4 ≤ q) × (q ≤ length s)
 found-place s p e q found = records.found-place s p found
 
 -- An event whose numbers are below 65,536 is written in bytes; and such are the numbers of an event that is read from bytes.

@@ -31,17 +31,21 @@ send n w u v d s =
     let p = waitsAt n w u v m s in
     if ltb p m then put3 n Values w u p d s else (if ltb m n then join n w u v d m s else s)
 
--- Place p of row w, u of a block takes what the next place holds.
-unfoldable pub shift : ℕ → Table → ℕ → ℕ → ℕ → List ℕ → List ℕ
-shift n t w u p s = put3 n t w u p (get3 n t w u (p + 1) s) s
+-- Place p of row w, u of a block takes what stands k places behind it.
+unfoldable pub shift : ℕ → Table → ℕ → ℕ → ℕ → ℕ → List ℕ → List ℕ
+shift n t w u k p s = put3 n t w u p (get3 n t w u (p + k) s) s
 
--- The head of row w, u of a block leaves, the m entries behind it move up, and the place that falls free becomes 0.
-unfoldable pub moveUp : ℕ → Table → ℕ → ℕ → ℕ → List ℕ → List ℕ
-moveUp n t w u m s = put3 n t w u m 0 (loop m (shift n t w u) s)
+-- The k places of row w, u of a block behind the first m become 0.
+unfoldable pub clear : ℕ → Table → ℕ → ℕ → ℕ → ℕ → List ℕ → List ℕ
+clear n t w u m k s = loop k (λ p. put3 n t w u (m + p) 0) s
 
--- The head of the queue leaves, and m entries stay.
-unfoldable pub takeHead : ℕ → ℕ → ℕ → ℕ → List ℕ → List ℕ
-takeHead n w u m s = put2 n Lengths w u m (moveUp n Values w u m (moveUp n Destinations w u m s))
+-- The first k entries of row w, u of a block leave, the m behind them move up, and the places that fall free become 0.
+unfoldable pub moveUp : ℕ → Table → ℕ → ℕ → ℕ → ℕ → List ℕ → List ℕ
+moveUp n t w u k m s = clear n t w u m k (loop m (shift n t w u k) s)
+
+-- The first k entries of the queue leave, and m stay.
+unfoldable pub takeFirst : ℕ → ℕ → ℕ → ℕ → ℕ → List ℕ → List ℕ
+takeFirst n w u k m s = put2 n Lengths w u m (moveUp n Values w u k m (moveUp n Destinations w u k m s))
 
 -- Destination v stands at place v, with the sender's distance.
 unfoldable pub offer : ℕ → ℕ → ℕ → ℕ → List ℕ → List ℕ

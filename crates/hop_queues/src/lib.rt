@@ -6,7 +6,7 @@ use hop_cells::put2;
 use hop_cells::put3;
 use hop_rule::Table;
 ghost use mathlib.Core.Path.{_≡_};
-ghost use Prim.Native.Nat.{_+_, _*_, _<_, _≤_};
+ghost use Prim.Native.Nat.{_+_, _*_, _<_, _≤_, min};
 ghost use Rattle.hop_cells.specs.Cells.{Room, cells};
 ghost use Rattle.hop_queues.specs.Queues as queue;
 
@@ -20,13 +20,19 @@ pub fn fill(s: &mut [u8], n: usize, t: Table, a: usize, b: usize, x: u8)
     }
 }
 
+// The smaller of two numbers.
+pub fn least(a: usize, b: usize) -> usize
+    ensures { λ r. ⌜ r ≡ min a b ⌝ }
+{
+    if a < b { a } else { b }
+}
+
 // The entries that the queue from w to u holds.
 pub fn held(s: &[u8], n: usize, w: usize, u: usize) -> usize
     requires { ⌜ Room n (now s) × (w < n) × (u < n) ⌝ }
     ensures { λ r. ⌜ (r ≡ queue.held n w u (now (s .entry))) × (r ≤ n) ⌝ }
 {
-    let m = get2(s, n, Table::Lengths, w, u);
-    if m < n { m } else { n }
+    least(get2(s, n, Table::Lengths, w, u), n)
 }
 
 // The first of the places below m at which v waits, or m.
@@ -66,33 +72,43 @@ pub fn send(s: &mut [u8], n: usize, w: usize, u: usize, v: usize, d: u8)
     }
 }
 
-// Place p of a row takes what the next place holds.
-fn shift(s: &mut [u8], n: usize, t: Table, w: usize, u: usize, p: usize)
-    requires { ⌜ Room n (now s) × (w < n) × (u < n) × (p + 1 < n) × (cells n t ≡ n * n * n) ⌝ }
-    ensures { λ r. ⌜ now (s .exit) ≡ queue.shift n t w u p (now (s .entry)) ⌝ }
+// Place p of a row takes what stands k places behind it.
+fn shift(s: &mut [u8], n: usize, t: Table, w: usize, u: usize, k: usize, p: usize)
+    requires { ⌜ Room n (now s) × (w < n) × (u < n) × (p + k < n) × (cells n t ≡ n * n * n) ⌝ }
+    ensures { λ r. ⌜ now (s .exit) ≡ queue.shift n t w u k p (now (s .entry)) ⌝ }
 {
-    let x = get3(s, n, t, w, u, p + 1);
+    let x = get3(s, n, t, w, u, p + k);
     put3(s, n, t, w, u, p, x as u8);
 }
 
-// The head of a row leaves, and the m entries behind it move up.
-fn move_up(s: &mut [u8], n: usize, t: Table, w: usize, u: usize, m: usize)
-    requires { ⌜ Room n (now s) × (w < n) × (u < n) × (m < n) × (cells n t ≡ n * n * n) ⌝ }
-    ensures { λ r. ⌜ now (s .exit) ≡ queue.moveUp n t w u m (now (s .entry)) ⌝ }
+// The k places of a row behind the first m become 0.
+fn clear(s: &mut [u8], n: usize, t: Table, w: usize, u: usize, m: usize, k: usize)
+    requires { ⌜ Room n (now s) × (w < n) × (u < n) × (m + k ≤ n) × (cells n t ≡ n * n * n) ⌝ }
+    ensures { λ r. ⌜ now (s .exit) ≡ queue.clear n t w u m k (now (s .entry)) ⌝ }
 {
-    for p in 0..m {
-        shift(s, n, t, w, u, p);
+    for p in 0..k {
+        put3(s, n, t, w, u, m + p, 0);
     }
-    put3(s, n, t, w, u, m, 0);
 }
 
-// The head of the queue leaves, and m entries stay.
-pub fn take_head(s: &mut [u8], n: usize, w: usize, u: usize, m: usize)
-    requires { ⌜ Room n (now s) × (w < n) × (u < n) × (m < n) ⌝ }
-    ensures { λ r. ⌜ now (s .exit) ≡ queue.takeHead n w u m (now (s .entry)) ⌝ }
+// The first k entries of a row leave, and the m behind them move up.
+fn move_up(s: &mut [u8], n: usize, t: Table, w: usize, u: usize, k: usize, m: usize)
+    requires { ⌜ Room n (now s) × (w < n) × (u < n) × (m + k ≤ n) × (cells n t ≡ n * n * n) ⌝ }
+    ensures { λ r. ⌜ now (s .exit) ≡ queue.moveUp n t w u k m (now (s .entry)) ⌝ }
 {
-    move_up(s, n, Table::Destinations, w, u, m);
-    move_up(s, n, Table::Values, w, u, m);
+    for p in 0..m {
+        shift(s, n, t, w, u, k, p);
+    }
+    clear(s, n, t, w, u, m, k);
+}
+
+// The first k entries of the queue leave, and m stay.
+pub fn take_first(s: &mut [u8], n: usize, w: usize, u: usize, k: usize, m: usize)
+    requires { ⌜ Room n (now s) × (w < n) × (u < n) × (m + k ≤ n) ⌝ }
+    ensures { λ r. ⌜ now (s .exit) ≡ queue.takeFirst n w u k m (now (s .entry)) ⌝ }
+{
+    move_up(s, n, Table::Destinations, w, u, k, m);
+    move_up(s, n, Table::Values, w, u, k, m);
     put2(s, n, Table::Lengths, w, u, m as u8);
 }
 

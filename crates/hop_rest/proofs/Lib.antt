@@ -15,3 +15,4 @@ pub mod Run
 pub mod Top
 pub mod Attained
 pub mod Same
+pub mod OnBytes

@@ -7,12 +7,8 @@ use lib.Dec.{eqb, ltb}
 use Rattle.hop_rule.specs.declared.Table.the-variants.{Distances, Lengths}
 use Rattle.hop_rule.specs.Words.{if_then_else_, loop, sum, first}
 use Rattle.hop_cells.specs.Cells.{get, get2}
-use Rattle.hop_steps.specs.Steps.{deliver}
+use Rattle.hop_steps.specs.Steps.{drain}
 use Rattle.hop_runs.specs.declared.Ran.{Ran}
-
--- k deliveries from w to u.
-unfoldable pub drain : ℕ → ℕ → ℕ → ℕ → List ℕ → List ℕ
-drain n w u k s = loop k (λ i. deliver n w u) s
 
 -- The queues of sender w, ascending by receiver; each gives up as many entries as are noted for it: what it held in s₀.
 abbrev pub passBy : ℕ → (ℕ → ℕ) → ℕ → List ℕ → List ℕ

@@ -5,9 +5,9 @@ use hop_cells::get2;
 use hop_cells::pair;
 use hop_cells::wide;
 use hop_rule::Table;
-use hop_steps::deliver;
+use hop_steps::drain;
 ghost use mathlib.Core.Path.{_≡_};
-ghost use Prim.Native.Nat.{ℕ, _*_, _<_, _≤_};
+ghost use Prim.Native.Nat.{ℕ, _+_, _*_, _<_, _≤_};
 ghost use lib.ListN.{getD};
 ghost use Rattle.hop_rule.specs.declared.Table.the-variants.{Lengths};
 ghost use Rattle.hop_cells.specs.Cells as cell;
@@ -18,16 +18,6 @@ ghost use Rattle.hop_runs.specs.Runs as runs;
 pub struct Ran {
     pub passes: u32,
     pub deliveries: u32,
-}
-
-// k deliveries from w to u.
-fn drain(s: &mut [u8], n: usize, w: usize, u: usize, k: usize)
-    requires { ⌜ Room n (now s) × (w < n) × (u < n) ⌝ }
-    ensures { λ r. ⌜ now (s .exit) ≡ runs.drain n w u k (now (s .entry)) ⌝ }
-{
-    for i in 0..k {
-        deliver(s, n, w, u);
-    }
 }
 
 // The lengths of all queues, by sender and receiver.
@@ -42,14 +32,32 @@ fn lengths(s: &[u8], n: usize) -> [u8; 1600]
     noted
 }
 
+// The first receiver from x on for which something is noted, or n.
+fn next_noted(noted: &[u8; 1600], n: usize, w: usize, x: usize) -> usize
+    requires { ⌜ (n ≤ 40) × (w < n) × (x ≤ n) ⌝ }
+    ensures { λ r. ⌜ (x ≤ r) × (r ≤ n) × ((y : ℕ) → y < r → x ≤ y → getD (now (noted .entry)) (w * n + y) 0 ≡ 0) ⌝ }
+{
+    let mut u = x;
+    while u < n {
+        let i = pair(n, w, u);
+        if noted[i] != 0 {
+            return u;
+        }
+        u += 1;
+    }
+    u
+}
+
 // The queues of sender w, ascending by receiver; each gives up as many entries as are noted for it.
 fn pass_from(s: &mut [u8], n: usize, w: usize, noted: &[u8; 1600])
     requires { ⌜ Room n (now s) × (w < n) ⌝ }
     ensures { λ r. ⌜ now (s .exit) ≡ runs.passBy n (λ (i : ℕ). getD (now (noted .entry)) i 0) w (now (s .entry)) ⌝ }
 {
-    for u in 0..n {
+    let mut u = next_noted(noted, n, w, 0);
+    while u < n {
         let i = pair(n, w, u);
         drain(s, n, w, u, wide(noted[i]));
+        u = next_noted(noted, n, w, u + 1);
     }
 }
 

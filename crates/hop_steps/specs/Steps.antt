@@ -2,13 +2,13 @@
 -- Used by the code's own definitions; a buyer needs none of it.
 use mathlib.Core.Bool.{Bool, _&&_}
 use mathlib.Core.List.{List}
-use Prim.Native.Nat.{ℕ, _+_, _-_}
+use Prim.Native.Nat.{ℕ, _+_, _-_, min}
 use lib.Dec.{eqb, ltb}
 use lib.ListN.{set}
 use Rattle.hop_rule.specs.declared.Table.the-variants.{Links, Distances, Downstreams, Views, Destinations, Values}
 use Rattle.hop_rule.specs.Words.{if_then_else_, loop}
 use Rattle.hop_cells.specs.Cells.{get2, get3, put2, put3}
-use Rattle.hop_queues.specs.Queues.{fill, held, send, takeHead, offerAll, empty}
+use Rattle.hop_queues.specs.Queues.{fill, held, send, takeFirst, offerAll, empty}
 use Rattle.hop_steps.specs.declared.Best.{Best}
 
 -- The link is up at u's end.
@@ -43,13 +43,36 @@ recompute n u v s =
     let stored = store n u v b s in
     if eqb u v then s else (if eqb (b .distance) (get2 n Distances u v s) then stored else tell n u v (b .distance) stored)
 
--- 'Deliver' from w to u: the head entry (v, d) leaves, u's view of v from w becomes d, and u recomputes v. Nothing happens where nothing waits, or v is no node.
+-- u's view of v from w has become d, and u settles v by that view alone: it is nearer than all others, or as near as they are over a lower neighbour; it grew and was the one to go by, so that the others are looked at; or nothing changes.
+unfoldable pub settle : ℕ → ℕ → ℕ → ℕ → ℕ → List ℕ → List ℕ
+settle n u v w d s =
+    let old = get2 n Distances u v s in
+    let x = get2 n Downstreams u v s in
+    let nearer = tell n u v (d + 1) (store n u v (record { distance = d + 1; downstream = w }) s) in
+    let alike = if ltb old n && ltb w x then put2 n Downstreams u v w s else s in
+    let farther = if eqb x w then recompute n u v s else s in
+    if eqb u v then s else (if ltb (d + 1) old then nearer else (if eqb (d + 1) old then alike else farther))
+
+-- The entry (v, d) at place p of the queue from w to u is heard: u's view of v from w becomes d, and u settles v. Nothing happens where v is no node.
+unfoldable pub hearAt : ℕ → ℕ → ℕ → ℕ → List ℕ → List ℕ
+hearAt n w u p s =
+    let v = get3 n Destinations w u p s in
+    let d = get3 n Values w u p s in
+    if ltb v n then settle n u v w d (put3 n Views u w v d s) else s
+
+unfoldable pub hearFirst : ℕ → ℕ → ℕ → ℕ → List ℕ → List ℕ
+hearFirst n w u k s = loop k (hearAt n w u) s
+
+-- k deliveries from w to u, or as many as wait: the entries are heard where they stand, and then leave together.
+unfoldable pub drain : ℕ → ℕ → ℕ → ℕ → List ℕ → List ℕ
+drain n w u k s =
+    let m = held n w u s in
+    let j = min k m in
+    if eqb k 0 then s else takeFirst n w u j (m - j) (hearFirst n w u j s)
+
+-- 'Deliver' from w to u.
 unfoldable pub deliver : ℕ → ℕ → ℕ → List ℕ → List ℕ
-deliver n w u s =
-    let k = held n w u s in
-    let v = get3 n Destinations w u 0 s in
-    let d = get3 n Values w u 0 s in
-    if ltb 0 k && ltb v n then recompute n u v (put3 n Views u w v d (takeHead n w u (k - 1) s)) else s
+deliver n w u s = drain n w u 1 s
 
 -- 'Link up' a, b: both ends are up, and each offers all that it has to the other.
 unfoldable pub linkUp : ℕ → ℕ → ℕ → List ℕ → List ℕ

@@ -10,9 +10,10 @@ use hop_cells::wide;
 use hop_queues::empty;
 use hop_queues::fill;
 use hop_queues::held;
+use hop_queues::least;
 use hop_queues::offer_all;
 use hop_queues::send;
-use hop_queues::take_head;
+use hop_queues::take_first;
 use hop_rule::Table;
 ghost use mathlib.Core.Path.{_≡_};
 ghost use Prim.Native.Nat.{_+_, _*_, _<_, _≤_};
@@ -104,6 +105,33 @@ pub fn recompute(s: &mut [u8], n: usize, u: usize, v: usize)
     }
 }
 
+// The view of v from w has become d. Only if it grew and was the one to go by are the others looked at.
+fn settle(s: &mut [u8], n: usize, u: usize, v: usize, w: usize, d: usize)
+    requires { ⌜ Room n (now s) × (u < n) × (v < n) × (w < n) × (d < 256) ⌝ }
+    ensures { λ r. ⌜ now (s .exit) ≡ step.settle n u v w d (now (s .entry)) ⌝ }
+{
+    if u == v {
+        return;
+    }
+    let old = get2(s, n, Table::Distances, u, v);
+    let x = get2(s, n, Table::Downstreams, u, v);
+    let near = d + 1;
+    if near < old {
+        let b = Best {
+            distance: near as u8,
+            downstream: w as u8,
+        };
+        store(s, n, u, v, b);
+        tell(s, n, u, v, near as u8);
+    } else if near == old {
+        if old < n && w < x {
+            put2(s, n, Table::Downstreams, u, v, w as u8);
+        }
+    } else if x == w {
+        recompute(s, n, u, v);
+    }
+}
+
 // The view of v from w, in one node's stretch of the views.
 fn hear_in(views: &mut [u8], n: usize, w: usize, v: usize, d: u8)
     requires { ⌜ (n ≤ 40) × (w < n) × (v < n) × (n * n ≤ length (now views)) ⌝ }
@@ -123,21 +151,48 @@ fn hear(s: &mut [u8], n: usize, u: usize, w: usize, v: usize, d: u8)
     hear_in(&mut s[from..to], n, w, v, d);
 }
 
-// The head entry of the queue from w to u leaves, is heard, and u recomputes its destination.
+// The entry at place p of the queue from w to u is heard, and u settles its destination.
+fn hear_at(s: &mut [u8], n: usize, w: usize, u: usize, p: usize)
+    requires { ⌜ Room n (now s) × (w < n) × (u < n) × (p < n) ⌝ }
+    ensures { λ r. ⌜ now (s .exit) ≡ step.hearAt n w u p (now (s .entry)) ⌝ }
+{
+    let v = get3(s, n, Table::Destinations, w, u, p);
+    let d = get3(s, n, Table::Values, w, u, p);
+    if v < n {
+        hear(s, n, u, w, v, d as u8);
+        settle(s, n, u, v, w, d);
+    }
+}
+
+fn hear_first(s: &mut [u8], n: usize, w: usize, u: usize, k: usize)
+    requires { ⌜ Room n (now s) × (w < n) × (u < n) × (k ≤ n) ⌝ }
+    ensures { λ r. ⌜ now (s .exit) ≡ step.hearFirst n w u k (now (s .entry)) ⌝ }
+{
+    for p in 0..k {
+        hear_at(s, n, w, u, p);
+    }
+}
+
+// k deliveries, or as many as wait: the entries are heard where they stand, and then leave together.
+pub fn drain(s: &mut [u8], n: usize, w: usize, u: usize, k: usize)
+    requires { ⌜ Room n (now s) × (w < n) × (u < n) ⌝ }
+    ensures { λ r. ⌜ now (s .exit) ≡ step.drain n w u k (now (s .entry)) ⌝ }
+{
+    if k == 0 {
+        return;
+    }
+    let m = held(s, n, w, u);
+    let j = least(k, m);
+    hear_first(s, n, w, u, j);
+    take_first(s, n, w, u, j, m - j);
+}
+
+// The head entry of the queue from w to u leaves, is heard, and u settles its destination.
 pub fn deliver(s: &mut [u8], n: usize, w: usize, u: usize)
     requires { ⌜ Room n (now s) × (w < n) × (u < n) ⌝ }
     ensures { λ r. ⌜ now (s .exit) ≡ step.deliver n w u (now (s .entry)) ⌝ }
 {
-    let k = held(s, n, w, u);
-    if 0 < k {
-        let v = get3(s, n, Table::Destinations, w, u, 0);
-        let d = get3(s, n, Table::Values, w, u, 0);
-        if v < n {
-            take_head(s, n, w, u, k - 1);
-            hear(s, n, u, w, v, d as u8);
-            recompute(s, n, u, v);
-        }
-    }
+    drain(s, n, w, u, 1);
 }
 
 // Both ends are up, and each offers all that it has to the other.

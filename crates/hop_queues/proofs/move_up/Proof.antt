@@ -1,4 +1,4 @@
--- `move_up` meets its contract: after p turns the first p places have taken what stood behind them. Assumes nothing.
+-- `move_up` meets its contract: after p turns the first p places have taken what stood k places behind them. Assumes nothing.
 use mathlib.Core.Path.{_≡_, refl, sym}
 use Prim.Native.Nat.{_≤_, _-_}
 use native.Mathlib.Omega.{arith}
@@ -12,10 +12,10 @@ use Rattle.hop_queues.proofs.move_up.Statement.{statement}
 use Rattle.hop_queues.proofs.move_up.Tie as tie
 
 abbrev Inv-loop : tie.InvT-loop
-Inv-loop s₀ n t w u m p₀ s p = (p ≤ m) × (length s ≡ length s₀) × (s ≡ loop p (shift n t w u) s₀)
+Inv-loop s₀ n t w u k m p₀ s p = (p ≤ m) × (length s ≡ length s₀) × (s ≡ loop p (shift n t w u k) s₀)
 
 abbrev μ-loop : tie.MeasureT-loop
-μ-loop s₀ n t w u m p₀ s p = m - p
+μ-loop s₀ n t w u k m p₀ s p = m - p
 
 loop-holds : tie.Need-loop-holds Inv-loop μ-loop
 loop-holds c = (omega arith, refl, sym (loop-none _ _))
@@ -32,8 +32,8 @@ loop-less c = search needs
 loop-again : tie.Need-loop-again Inv-loop μ-loop
 loop-again c = (omega arith, omega arith, loop-turn _ _ _ (c .before .before .before .before .before .loop .inv .2) (c .before .before .shift .ensures))
 
-put3-requires : tie.Need-put3-requires Inv-loop μ-loop
-put3-requires c κs = search needs
+clear-requires : tie.Need-clear-requires Inv-loop μ-loop
+clear-requires c κs = search needs
 
 same-length : tie.Need-same-length Inv-loop μ-loop
 same-length c = search needs
@@ -41,10 +41,10 @@ same-length c = search needs
 returns : tie.Need-returns Inv-loop μ-loop
 unfolding moveUp
 returns c =
-    let at-put3 = c .before .before in
-    let at-loop-test = at-put3 .before .before in
+    let at-clear = c .before .before in
+    let at-loop-test = at-clear .before .before in
     let at-loop = at-loop-test .before in
-    rw (at-put3 .put3 .ensures, ← loop-end _ _ _ _ (at-loop .loop .inv .2) (at-loop .loop .inv .0) (at-loop-test .loop-test .left))
+    rw (at-clear .clear .ensures, ← loop-end _ _ _ _ (at-loop .loop .inv .2) (at-loop .loop .inv .0) (at-loop-test .loop-test .left))
 
 pub move-up-spec : {M : Type 1} → statement M
 move-up-spec =
@@ -57,6 +57,6 @@ move-up-spec =
     add-p
     loop-less
     loop-again
-    put3-requires
+    clear-requires
     same-length
     returns)

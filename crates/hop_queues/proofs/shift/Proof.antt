@@ -1,4 +1,4 @@
--- `shift` meets its contract: one byte is read, and written at the place before it. Assumes nothing.
+-- `shift` meets its contract: one byte is read, and written k places before it. Assumes nothing.
 use borrow.Author.Needs.{needs}
 use Rattle.hop_queues.specs.Queues.{shift}
 use Rattle.hop_queues.proofs.shift.Statement.{statement}

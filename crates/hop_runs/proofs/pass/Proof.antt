@@ -11,7 +11,8 @@ use Rattle.hop_laws.proofs.Words.{loop-none, loop-turn, loop-same}
 use Rattle.hop_cells.specs.Cells.{get}
 use Rattle.hop_cells.proofs.Places.{cell2-lt}
 use Rattle.hop_cells.proofs.Loops.{loop-end}
-use Rattle.hop_runs.specs.Runs.{drain, passBy, passFrom, pass}
+use Rattle.hop_steps.specs.Steps.{drain}
+use Rattle.hop_runs.specs.Runs.{passBy, passFrom, pass}
 use Rattle.hop_runs.proofs.pass.Statement.{statement}
 use Rattle.hop_runs.proofs.pass.Tie as tie
 

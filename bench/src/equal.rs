@@ -1,0 +1,21 @@
+//! The safe implementation does the same as the second one: the comparison holds it to it. Uses the comparison.
+
+use crate::safe::Safe;
+use hop_harness::compare::compare;
+use hop_harness::compare::options::{Amount, Options};
+
+/// So many cases of each random group, without some groups. One that fails is enough.
+fn held(cases: u64, skip: &[&str]) {
+    let skip = skip.iter().map(|name| name.to_string()).collect();
+    let count = compare(&Safe, &Options { amount: Amount::Cases(cases), skip, first: true, ..Options::default() });
+    assert_eq!(count.failed, 0);
+    assert!(count.passed > 0);
+}
+
+/// What is quick comes first, so that an implementation that is wrong is soon seen to be.
+#[test]
+fn equals_the_second_implementation() {
+    let program = ["program", "program-input"];
+    held(8, &[&program[..], &["numbers", "two-nodes", "three-nodes", "every-node-count"]].concat());
+    held(40, &program);
+}

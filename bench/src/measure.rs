@@ -1,0 +1,150 @@
+//! How it is timed: in one process, the two turn and turn about, the best of many. Uses the rows.
+
+use crate::rows::{Row, events, script};
+use hop_harness::engine::Engine;
+use std::hint::black_box;
+use std::time::{Duration, Instant};
+
+/// The best times of the core and of the safe implementation, in nanoseconds.
+#[derive(Clone, Copy)]
+pub struct Best {
+    pub core: f64,
+    pub safe: f64,
+}
+
+/// How long a row is timed, and how often at least.
+const TIME: Duration = Duration::from_millis(400);
+const ROUNDS: usize = 15;
+/// What a shorter work is done so often that the clock does not matter.
+const CLOCK: f64 = 20_000.0;
+
+/// Times two works turn and turn about. Each gives its own time in nanoseconds.
+pub fn best_of(mut core: impl FnMut() -> f64, mut safe: impl FnMut() -> f64) -> Best {
+    let mut best = Best { core: f64::MAX, safe: f64::MAX };
+    let start = Instant::now();
+    let mut rounds = 0;
+    while rounds < ROUNDS || start.elapsed() < TIME {
+        // The one that comes second finds a warmer machine, so they change places.
+        if rounds % 2 == 0 {
+            best.core = best.core.min(core());
+            best.safe = best.safe.min(safe());
+        } else {
+            best.safe = best.safe.min(safe());
+            best.core = best.core.min(core());
+        }
+        rounds += 1;
+    }
+    best
+}
+
+/// The time since a start, for each of so many works.
+fn each(start: Instant, often: u32) -> f64 {
+    start.elapsed().as_nanos() as f64 / f64::from(often)
+}
+
+/// One round of a row: the state put back, then the call, so often that the clock does not matter.
+struct Round<'a> {
+    engine: &'a dyn Engine,
+    row: &'a Row,
+    buffer: Vec<u8>,
+    often: u32,
+}
+
+impl Round<'_> {
+    fn new<'a>(engine: &'a dyn Engine, row: &'a Row) -> Round<'a> {
+        let mut round = Round { engine, row, buffer: row.state.clone(), often: 1 };
+        let once = round.once();
+        // A call that changes the state is done once on each copy; the others can be done again on the same.
+        let changes = round.buffer != row.state;
+        if !changes && once < CLOCK {
+            round.often = (CLOCK / once.max(10.0)) as u32 + 1;
+        }
+        round
+    }
+
+    fn once(&mut self) -> f64 {
+        self.buffer.copy_from_slice(&self.row.state);
+        let mut out = [0; 14];
+        let start = Instant::now();
+        for _ in 0..self.often {
+            black_box(self.row.call.on(self.engine, black_box(&mut self.buffer), black_box(&mut out)));
+        }
+        each(start, self.often)
+    }
+}
+
+/// Times a row, after making sure that both give the same answers and bytes.
+pub fn row(core: &dyn Engine, safe: &dyn Engine, row: &Row) -> Result<Best, String> {
+    let outcome = |engine: &dyn Engine| {
+        let (mut state, mut out) = (row.state.clone(), [0; 14]);
+        (row.call.on(engine, &mut state, &mut out), state, out)
+    };
+    let (is, should) = (outcome(core), outcome(safe));
+    if is != should {
+        return Err(format!("{}, n = {}: the two differ ({:?}, {:?})", row.name, row.state[0], is.0, should.0));
+    }
+    if should.0[0] != 0 {
+        return Err(format!("{}, n = {}: refused with {}", row.name, row.state[0], should.0[0]));
+    }
+    let (mut of_core, mut of_safe) = (Round::new(core, row), Round::new(safe, row));
+    Ok(best_of(|| of_core.once(), || of_safe.once()))
+}
+
+/// Times the writing of a thousand event records.
+pub fn write(core: &dyn Engine, safe: &dyn Engine) -> Result<Best, String> {
+    let events = events();
+    let all = |engine: &dyn Engine, out: &mut Vec<u8>| {
+        let mut place = 0;
+        for &(kind, first, second) in &events {
+            place += engine.write_event(kind, first, second, &mut out[place..]).value as usize;
+        }
+        place
+    };
+    let (mut of_core, mut of_safe) = (vec![0; 8000], vec![0; 8000]);
+    if all(core, &mut of_core) != all(safe, &mut of_safe) || of_core != of_safe {
+        return Err("written events differ".to_string());
+    }
+    let timed = |engine: &dyn Engine, out: &mut Vec<u8>| {
+        let start = Instant::now();
+        black_box(all(engine, black_box(out)));
+        each(start, 1)
+    };
+    Ok(best_of(|| timed(core, &mut of_core), || timed(safe, &mut of_safe)))
+}
+
+/// Times the reading of a thousand event records.
+pub fn read(core: &dyn Engine, safe: &dyn Engine) -> Result<Best, String> {
+    let script = script();
+    let all = |engine: &dyn Engine| {
+        let (mut place, mut sum) = (0, 0_u64);
+        loop {
+            let read = engine.read_event(black_box(&script), &mut place);
+            if read.kind == 0 {
+                return (place, sum);
+            }
+            sum += u64::from(read.kind ^ read.first ^ read.second);
+        }
+    };
+    if all(core) != all(safe) {
+        return Err("read events differ".to_string());
+    }
+    let timed = |engine: &dyn Engine| {
+        let start = Instant::now();
+        black_box(all(engine));
+        each(start, 1)
+    };
+    Ok(best_of(|| timed(core), || timed(safe)))
+}
+
+/// Times a plain pass over bytes: their sum.
+pub fn plain(bytes: &[u8]) -> f64 {
+    let often = (CLOCK * 20.0 / bytes.len() as f64) as u32 + 1;
+    let timed = || {
+        let start = Instant::now();
+        for _ in 0..often {
+            black_box(black_box(bytes).iter().map(|&byte| u64::from(byte)).sum::<u64>());
+        }
+        each(start, often)
+    };
+    best_of(timed, timed).core
+}

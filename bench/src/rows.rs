@@ -1,0 +1,101 @@
+//! What is timed: calls on states that a network is often in. Uses the safe implementation to make the states.
+
+use crate::safe::Safe;
+use hop_harness::compare::call::Call;
+use hop_harness::engine::Engine;
+
+/// The node counts: each doubles the one before, so that growth can be read off.
+pub const NODE_COUNTS: [usize; 3] = [10, 20, 40];
+
+/// A call on a state, by name.
+pub struct Row {
+    pub name: &'static str,
+    pub state: Vec<u8>,
+    pub call: Call,
+}
+
+fn fresh(n: usize) -> Vec<u8> {
+    let mut state = vec![0; Safe.size(n)];
+    assert_eq!(Safe.make(&mut state, n), 0);
+    state
+}
+
+fn with_links(n: usize, links: impl Iterator<Item = (usize, usize)>) -> Vec<u8> {
+    let mut state = fresh(n);
+    for (a, b) in links {
+        assert_eq!(Safe.up(&mut state, a, b), 0);
+    }
+    state
+}
+
+/// All links up and nothing delivered: every queue is full.
+fn complete(n: usize) -> Vec<u8> {
+    with_links(n, (0..n).flat_map(|a| (a + 1..n).map(move |b| (a, b))))
+}
+
+fn line(n: usize) -> Vec<u8> {
+    with_links(n, (1..n).map(|b| (b - 1, b)))
+}
+
+fn at_rest(mut state: Vec<u8>) -> Vec<u8> {
+    assert_eq!(Safe.run(&mut state, 255).code, 0);
+    state
+}
+
+/// A network in the middle of its work: every other link of a complete one, one pass made.
+fn at_work(n: usize) -> Vec<u8> {
+    let mut state =
+        with_links(n, (0..n).flat_map(|a| (a + 1..n).map(move |b| (a, b))).filter(|(a, b)| (a + b) % 3 == 0));
+    assert_eq!(Safe.pass(&mut state).code, 0);
+    state
+}
+
+/// The checks, which stand in every call and are also timed beside a plain pass over the bytes.
+pub fn checks(n: usize) -> Vec<Row> {
+    let row = |name, state| Row { name, state, call: Call::Check };
+    vec![
+        row("check, fresh", fresh(n)),
+        row("check, all queues full", complete(n)),
+        row("check, at rest, a line", at_rest(line(n))),
+        row("check, at rest, all links", at_rest(complete(n))),
+    ]
+}
+
+/// Every call on a state that is timed.
+pub fn rows(n: usize) -> Vec<Row> {
+    let last = n - 1;
+    let row = |name, state, call| Row { name, state, call };
+    let mut rows = vec![row("make", fresh(n), Call::Make { n })];
+    rows.extend(checks(n));
+    rows.extend([
+        row("up, at rest, a line", at_rest(line(n)), Call::Up { a: 0, b: last }),
+        row("down, at rest, a line", at_rest(line(n)), Call::Down { a: 0, b: 1 }),
+        row("down, at rest, all links", at_rest(complete(n)), Call::Down { a: 0, b: last }),
+        row("deliver, all queues full", complete(n), Call::Deliver { from: 0, to: last }),
+        row("pass, all queues full", complete(n), Call::Pass),
+        row("pass, at work", at_work(n), Call::Pass),
+        row("pass, at rest", at_rest(complete(n)), Call::Pass),
+        row("run to rest, all links", complete(n), Call::Run { allowance: 255 }),
+        row("run to rest, a line", line(n), Call::Run { allowance: 255 }),
+        row("distance", at_rest(complete(n)), Call::Distance { node: 0, destination: last }),
+        row("total queued, all queues full", complete(n), Call::TotalQueued),
+        row("status, all queues full", complete(n), Call::Status { node: last, room: 14 }),
+    ]);
+    rows
+}
+
+/// Event records, one of each kind in turn.
+pub fn events() -> Vec<(u32, u16, u16)> {
+    (0..1000).map(|k| (15 + k % 5, (k % 40) as u16, (k % 39) as u16)).collect()
+}
+
+/// A run of these records.
+pub fn script() -> Vec<u8> {
+    let mut script = Vec::new();
+    for (kind, first, second) in events() {
+        let mut record = [0; 8];
+        let written = Safe.write_event(kind, first, second, &mut record);
+        script.extend_from_slice(&record[..written.value as usize]);
+    }
+    script
+}

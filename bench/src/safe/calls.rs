@@ -1,0 +1,204 @@
+//! The calls with their refusals: what is judged, in document 01's order, then the step. Uses all of this folder.
+
+use super::check::sound;
+use super::parts::{NONE, Parts, PartsMut, row, size};
+use hop_harness::engine::{Answer, Engine, Ran, Read};
+
+/// The implementation that the core is timed against.
+pub struct Safe;
+
+/// A refusal's number, or what was asked for.
+type Judged<T> = Result<T, u32>;
+
+/// The node count of a sound state.
+fn sound_state(buffer: &[u8]) -> Judged<usize> {
+    let n = usize::from(*buffer.first().ok_or(2_u32)?);
+    if !(1..=40).contains(&n) {
+        return Err(1);
+    }
+    if buffer.len() < size(n) {
+        return Err(2);
+    }
+    if sound(&Parts::of(buffer, n)) { Ok(n) } else { Err(3) }
+}
+
+fn below(n: usize, a: usize, b: usize) -> Judged<()> {
+    if a < n && b < n { Ok(()) } else { Err(4) }
+}
+
+fn ends(n: usize, a: usize, b: usize) -> Judged<()> {
+    below(n, a, b)?;
+    if a == b { Err(5) } else { Ok(()) }
+}
+
+fn code(judged: Judged<()>) -> u32 {
+    judged.err().unwrap_or(0)
+}
+
+fn one(judged: Judged<u32>) -> Answer {
+    match judged {
+        Ok(value) => Answer { code: 0, value },
+        Err(code) => Answer { code, value: 0 },
+    }
+}
+
+fn sum(bytes: impl Iterator<Item = u8>) -> u32 {
+    bytes.map(u32::from).sum()
+}
+
+fn change(state: &mut [u8], a: usize, b: usize, link: u8, refused: u32) -> Judged<PartsMut<'_>> {
+    let n = sound_state(state)?;
+    ends(n, a, b)?;
+    let parts = PartsMut::of(state, n);
+    if parts.links[a * n + b] == link { Ok(parts) } else { Err(refused) }
+}
+
+/// How many body numbers an event kind has.
+fn body(kind: u32) -> Judged<usize> {
+    match kind {
+        15 => Ok(1),
+        16..=18 => Ok(2),
+        19 => Ok(0),
+        _ => Err(10),
+    }
+}
+
+fn status(state: &[u8], node: usize, out: &mut [u8]) -> Judged<u32> {
+    let n = sound_state(state)?;
+    below(n, node, 0)?;
+    let out = out.get_mut(..14).ok_or(2_u32)?;
+    let parts = Parts::of(state, n);
+    let to = sum((0..n).map(|w| parts.lengths[w * n + node]));
+    let from = sum(row(parts.lengths, n, node).iter().copied());
+    let reached = row(parts.distances, n, node).iter().filter(|&&d| usize::from(d) < n).count() - 1;
+    let total = sum(parts.lengths.iter().copied());
+    let fields = [12, 1, node as u32, to, from, reached as u32, total];
+    for (place, field) in out.chunks_exact_mut(2).zip(fields) {
+        place.copy_from_slice(&(field as u16).to_le_bytes());
+    }
+    Ok(14)
+}
+
+fn read(bytes: &[u8], place: &mut usize) -> Judged<Read> {
+    let left = bytes.get(*place..).ok_or(9_u32)?;
+    if left.is_empty() {
+        return Ok(Read::default());
+    }
+    let number = |at: usize| u32::from(u16::from_le_bytes([left[at], left[at + 1]]));
+    if left.len() < 4 {
+        return Err(9);
+    }
+    let kind = number(2);
+    let numbers = body(kind)?;
+    if number(0) as usize != 2 + 2 * numbers {
+        return Err(11);
+    }
+    if left.len() < 4 + 2 * numbers {
+        return Err(9);
+    }
+    *place += 4 + 2 * numbers;
+    let first = if numbers > 0 { number(4) } else { 0 };
+    let second = if numbers > 1 { number(6) } else { 0 };
+    Ok(Read { code: 0, kind, first, second })
+}
+
+impl Engine for Safe {
+    fn size(&self, n: usize) -> usize {
+        if (1..=40).contains(&n) { size(n) } else { 0 }
+    }
+
+    fn make(&self, state: &mut [u8], n: usize) -> u32 {
+        if !(1..=40).contains(&n) {
+            return 1;
+        }
+        let Some(state) = state.get_mut(..size(n)) else { return 2 };
+        state.fill(0);
+        state[0] = n as u8;
+        let parts = PartsMut::of(state, n);
+        parts.distances.fill(n as u8);
+        parts.downstreams.fill(NONE);
+        parts.views.fill(n as u8);
+        for u in 0..n {
+            parts.distances[u * n + u] = 0;
+            parts.downstreams[u * n + u] = u as u8;
+        }
+        0
+    }
+
+    fn check(&self, state: &[u8]) -> u32 {
+        code(sound_state(state).map(|_| ()))
+    }
+
+    fn up(&self, state: &mut [u8], a: usize, b: usize) -> u32 {
+        code(change(state, a, b, 0, 6).map(|mut parts| parts.up(a, b)))
+    }
+
+    fn down(&self, state: &mut [u8], a: usize, b: usize) -> u32 {
+        code(change(state, a, b, 1, 7).map(|mut parts| parts.down(a, b)))
+    }
+
+    fn deliver(&self, state: &mut [u8], from: usize, to: usize) -> u32 {
+        code(change(state, from, to, 1, 7).and_then(|mut parts| {
+            if parts.lengths[from * parts.n + to] == 0 {
+                return Err(8);
+            }
+            parts.deliver(from, to);
+            Ok(())
+        }))
+    }
+
+    fn pass(&self, state: &mut [u8]) -> Answer {
+        one(sound_state(state).map(|n| PartsMut::of(state, n).pass()))
+    }
+
+    fn run(&self, state: &mut [u8], allowance: u8) -> Ran {
+        match sound_state(state).map(|n| PartsMut::of(state, n).run(allowance)) {
+            Ok((passes, deliveries)) => Ran { code: 0, passes, deliveries },
+            Err(code) => Ran { code, passes: 0, deliveries: 0 },
+        }
+    }
+
+    fn distance(&self, state: &[u8], node: usize, destination: usize) -> Answer {
+        one(sound_state(state).and_then(|n| {
+            below(n, node, destination)?;
+            Ok(Parts::of(state, n).distances[node * n + destination].into())
+        }))
+    }
+
+    fn downstream(&self, state: &[u8], node: usize, destination: usize) -> Answer {
+        one(sound_state(state).and_then(|n| {
+            below(n, node, destination)?;
+            Ok(Parts::of(state, n).downstreams[node * n + destination].into())
+        }))
+    }
+
+    fn queue_length(&self, state: &[u8], from: usize, to: usize) -> Answer {
+        one(sound_state(state).and_then(|n| {
+            ends(n, from, to)?;
+            Ok(Parts::of(state, n).lengths[from * n + to].into())
+        }))
+    }
+
+    fn total_queued(&self, state: &[u8]) -> Answer {
+        one(sound_state(state).map(|n| sum(Parts::of(state, n).lengths.iter().copied())))
+    }
+
+    fn status(&self, state: &[u8], node: usize, out: &mut [u8]) -> Answer {
+        one(status(state, node, out))
+    }
+
+    fn write_event(&self, kind: u32, first: u16, second: u16, out: &mut [u8]) -> Answer {
+        one(body(kind).and_then(|numbers| {
+            let out = out.get_mut(..4 + 2 * numbers).ok_or(2_u32)?;
+            let record = [2 + 2 * numbers as u16, kind as u16, first, second];
+            for (place, number) in out.chunks_exact_mut(2).zip(record) {
+                place.copy_from_slice(&number.to_le_bytes());
+            }
+            Ok(4 + 2 * numbers as u32)
+        }))
+    }
+
+    fn read_event(&self, bytes: &[u8], place: &mut usize) -> Read {
+        read(bytes, place).unwrap_or_else(|code| Read { code, ..Read::default() })
+    }
+}

@@ -1,0 +1,9 @@
+//! A straightforward, careful, safe Rust implementation on the stored bytes: what the core is timed against.
+//! Uses the names of the calls and std.
+
+pub mod calls;
+mod check;
+mod parts;
+mod steps;
+
+pub use calls::Safe;

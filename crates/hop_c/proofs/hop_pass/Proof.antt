@@ -1,0 +1,20 @@
+-- `hop_c::hop_pass` meets its contract: the struct says what the core answered. Assumes nothing.
+use mathlib.Core.Path.{_∙_}
+use borrow.Author.Needs.{needs}
+use Rattle.hop_c.proofs.hop_pass.Statement.{statement}
+use Rattle.hop_c.proofs.hop_pass.Tie as tie
+
+pass-requires : tie.Need-pass-requires
+pass-requires c κs = search needs
+
+plain-pass-requires : tie.Need-plain-pass-requires
+plain-pass-requires c κs = search needs
+
+same-length : tie.Need-same-length
+same-length c = search needs
+
+returns : tie.Need-returns
+returns c = c .plain-pass .ensures _ ∙ c .before .before .before .pass .ensures
+
+pub hop-pass-spec : {M : Type 1} → statement M
+hop-pass-spec = tie.close (tie.spec pass-requires plain-pass-requires same-length returns)

@@ -1,0 +1,285 @@
+// The calls that C, C++ and Rust programs link: each is one call of the proved core, with the same definition in its contract, and counts on nothing.
+// Names, parameter order and widths are fixed: programs that were compiled against one version link against the next.
+
+use hop_ask::Answer;
+use hop_cells::size;
+use hop_core::PassAnswer;
+use hop_core::RunAnswer;
+use hop_records::Written;
+use hop_reader::read_from;
+use hop_rule::Event;
+use hop_rule::Reading;
+ghost use mathlib.Core.Path.{_≡_};
+ghost use mathlib.Core.List.{List, []};
+ghost use Prim.Native.Nat.{ℕ, _≤_};
+ghost use Rattle.hop_rule.specs.Calls as call;
+ghost use Rattle.hop_rule.specs.Calls.{outcome};
+ghost use Rattle.hop_rule.specs.Records.{readEvent};
+ghost use Rattle.hop_core.specs.Answers as core;
+ghost use Rattle.hop_ask.specs.Answers as ask;
+ghost use Rattle.hop_records.specs.Writing.{outcomeOf};
+ghost use Rattle.hop_reader.specs.Stepping.{placeAfter};
+ghost use Rattle.hop_c.specs.Edge.{sizeOf, asked, passed, ran, wroteEvent, numbers, readOf};
+
+// A number, and one answer.
+#[repr(C)]
+pub struct HopAnswer {
+    pub code: u32,
+    pub value: u32,
+}
+
+// What a run did.
+#[repr(C)]
+pub struct HopRan {
+    pub code: u32,
+    pub passes: u32,
+    pub deliveries: u32,
+}
+
+// An event that was read; kind 0 at the plain end and at a refusal.
+#[repr(C)]
+pub struct HopEvent {
+    pub code: u32,
+    pub kind: u32,
+    pub first: u32,
+    pub second: u32,
+}
+
+// Each of the core's answers as the struct that says the same.
+fn plain_answer(a: Answer) -> HopAnswer
+    ensures { λ r. ⌜ ((s out : List ℕ) → asked r s out ≡ ask.asked a s out) ⌝ }
+{
+    match a {
+        Answer::Value(x) => HopAnswer { code: 0, value: x },
+        Answer::Refused(c) => HopAnswer { code: c, value: 0 },
+    }
+}
+
+fn plain_pass(a: PassAnswer) -> HopAnswer
+    ensures { λ r. ⌜ ((s : List ℕ) → passed r s ≡ core.passed a s) ⌝ }
+{
+    match a {
+        PassAnswer::Delivered(d) => HopAnswer { code: 0, value: d },
+        PassAnswer::Refused(c) => HopAnswer { code: c, value: 0 },
+    }
+}
+
+fn plain_run(a: RunAnswer) -> HopRan
+    ensures { λ r. ⌜ ((s : List ℕ) → ran r s ≡ core.ran a s) ⌝ }
+{
+    match a {
+        RunAnswer::Made(p, d) => HopRan {
+            code: 0,
+            passes: p,
+            deliveries: d,
+        },
+        RunAnswer::Refused(c) => HopRan {
+            code: c,
+            passes: 0,
+            deliveries: 0,
+        },
+    }
+}
+
+// An event's record has at most 8 bytes.
+fn plain_written(w: Written) -> HopAnswer
+    requires { ⌜ outcomeOf w [] .value ≤ 8 ⌝ }
+    ensures { λ r. ⌜ ((out : List ℕ) → asked r [] out ≡ outcomeOf w out) ⌝ }
+{
+    match w {
+        Written::Bytes(k) => HopAnswer {
+            code: 0,
+            value: k as u32,
+        },
+        Written::Refused(c) => HopAnswer { code: c, value: 0 },
+    }
+}
+
+fn plain_event(e: Event) -> HopEvent
+    ensures { λ r. ⌜ r ≡ numbers e ⌝ }
+{
+    match e {
+        Event::Make(n) => HopEvent {
+            code: 0,
+            kind: 15,
+            first: n as u32,
+            second: 0,
+        },
+        Event::Up(a, b) => HopEvent {
+            code: 0,
+            kind: 16,
+            first: a as u32,
+            second: b as u32,
+        },
+        Event::Down(a, b) => HopEvent {
+            code: 0,
+            kind: 17,
+            first: a as u32,
+            second: b as u32,
+        },
+        Event::Deliver(w, u) => HopEvent {
+            code: 0,
+            kind: 18,
+            first: w as u32,
+            second: u as u32,
+        },
+        Event::Pass => HopEvent {
+            code: 0,
+            kind: 19,
+            first: 0,
+            second: 0,
+        },
+    }
+}
+
+fn plain_reading(a: Reading) -> HopEvent
+    ensures { λ r. ⌜ r ≡ readOf a ⌝ }
+{
+    match a {
+        Reading::Found(e, _) => plain_event(e),
+        Reading::End => HopEvent {
+            code: 0,
+            kind: 0,
+            first: 0,
+            second: 0,
+        },
+        Reading::Refused(c) => HopEvent {
+            code: c,
+            kind: 0,
+            first: 0,
+            second: 0,
+        },
+    }
+}
+
+fn write_known(e: Event, out: &mut [u8]) -> HopAnswer
+    ensures { λ r. ⌜ asked r [] (now (out .exit)) ≡ outcome (call.writeEvent e) [] (now (out .entry)) ⌝ }
+{
+    plain_written(hop_records::write_event(e, out))
+}
+
+// The bytes of a state of n nodes; 0 unless n is 1 to 40. Never refuses.
+#[no_mangle]
+pub extern "C" fn hop_size(n: usize) -> usize
+    ensures { λ r. ⌜ r ≡ sizeOf n ⌝ }
+{
+    if n == 0 {
+        return 0;
+    }
+    if 40 < n {
+        return 0;
+    }
+    size(n)
+}
+
+// The events, and check.
+#[no_mangle]
+pub extern "C" fn hop_make(state: &mut [u8], n: usize) -> u32
+    ensures { λ r. ⌜ core.told r (now (state .exit)) ≡ outcome (call.make n) (now (state .entry)) [] ⌝ }
+{
+    hop_core::make(state, n)
+}
+
+#[no_mangle]
+pub extern "C" fn hop_check(state: &[u8]) -> u32
+    ensures { λ r. ⌜ core.told r (now (state .entry)) ≡ outcome call.check (now (state .entry)) [] ⌝ }
+{
+    hop_core::check(state)
+}
+
+#[no_mangle]
+pub extern "C" fn hop_up(state: &mut [u8], a: usize, b: usize) -> u32
+    ensures { λ r. ⌜ core.told r (now (state .exit)) ≡ outcome (call.up a b) (now (state .entry)) [] ⌝ }
+{
+    hop_core::up(state, a, b)
+}
+
+#[no_mangle]
+pub extern "C" fn hop_down(state: &mut [u8], a: usize, b: usize) -> u32
+    ensures { λ r. ⌜ core.told r (now (state .exit)) ≡ outcome (call.down a b) (now (state .entry)) [] ⌝ }
+{
+    hop_core::down(state, a, b)
+}
+
+#[no_mangle]
+pub extern "C" fn hop_deliver(state: &mut [u8], from: usize, to: usize) -> u32
+    ensures { λ r. ⌜ core.told r (now (state .exit)) ≡ outcome (call.deliver from to) (now (state .entry)) [] ⌝ }
+{
+    hop_core::deliver(state, from, to)
+}
+
+#[no_mangle]
+pub extern "C" fn hop_pass(state: &mut [u8]) -> HopAnswer
+    ensures { λ r. ⌜ passed r (now (state .exit)) ≡ outcome call.pass (now (state .entry)) [] ⌝ }
+{
+    plain_pass(hop_core::pass(state))
+}
+
+#[no_mangle]
+pub extern "C" fn hop_run(state: &mut [u8], allowance: u8) -> HopRan
+    ensures { λ r. ⌜ ran r (now (state .exit)) ≡ outcome (call.run allowance) (now (state .entry)) [] ⌝ }
+{
+    plain_run(hop_core::run(state, allowance))
+}
+
+// The questions.
+#[no_mangle]
+pub extern "C" fn hop_distance(state: &[u8], node: usize, destination: usize) -> HopAnswer
+    ensures { λ r. ⌜ asked r (now (state .entry)) [] ≡ outcome (call.distance node destination) (now (state .entry)) [] ⌝ }
+{
+    plain_answer(hop_ask::distance(state, node, destination))
+}
+
+#[no_mangle]
+pub extern "C" fn hop_downstream(state: &[u8], node: usize, destination: usize) -> HopAnswer
+    ensures { λ r. ⌜ asked r (now (state .entry)) [] ≡ outcome (call.downstream node destination) (now (state .entry)) [] ⌝ }
+{
+    plain_answer(hop_ask::downstream(state, node, destination))
+}
+
+#[no_mangle]
+pub extern "C" fn hop_queue_length(state: &[u8], from: usize, to: usize) -> HopAnswer
+    ensures { λ r. ⌜ asked r (now (state .entry)) [] ≡ outcome (call.queueLength from to) (now (state .entry)) [] ⌝ }
+{
+    plain_answer(hop_ask::queue_length(state, from, to))
+}
+
+#[no_mangle]
+pub extern "C" fn hop_total_queued(state: &[u8]) -> HopAnswer
+    ensures { λ r. ⌜ asked r (now (state .entry)) [] ≡ outcome call.totalQueued (now (state .entry)) [] ⌝ }
+{
+    plain_answer(hop_ask::total_queued(state))
+}
+
+// The records.
+#[no_mangle]
+pub extern "C" fn hop_status(state: &[u8], node: usize, out: &mut [u8]) -> HopAnswer
+    ensures { λ r. ⌜ asked r (now (state .entry)) (now (out .exit)) ≡ outcome (call.status node) (now (state .entry)) (now (out .entry)) ⌝ }
+{
+    plain_answer(hop_ask::status(state, node, out))
+}
+
+#[no_mangle]
+pub extern "C" fn hop_write_event(kind: u32, first: u16, second: u16, out: &mut [u8]) -> HopAnswer
+    ensures { λ r. ⌜ asked r [] (now (out .exit)) ≡ wroteEvent kind first second (now (out .entry)) ⌝ }
+{
+    match kind {
+        15 => write_known(Event::Make(first), out),
+        16 => write_known(Event::Up(first, second), out),
+        17 => write_known(Event::Down(first, second), out),
+        18 => write_known(Event::Deliver(first, second), out),
+        19 => write_known(Event::Pass, out),
+        _ => HopAnswer { code: 10, value: 0 },
+    }
+}
+
+#[no_mangle]
+pub extern "C" fn hop_read_event(bytes: &[u8], place: &mut usize) -> HopEvent
+    ensures { λ r. ⌜ (r ≡ readOf (readEvent (now (bytes .entry)) (now (place .entry))))
+        × (now (place .exit) ≡ placeAfter (readEvent (now (bytes .entry)) (now (place .entry))) (now (place .entry))) ⌝ }
+{
+    let step = read_from(bytes, *place);
+    *place = step.next;
+    let reading = step.reading;
+    plain_reading(reading)
+}

@@ -1,0 +1,41 @@
+-- What the public calls answer, as the numbers that are printed. Assumes nothing.
+use mathlib.Core.Path.{_≡_, refl}
+use mathlib.Core.List.{List, []}
+use Prim.Native.Nat.{ℕ, suc}
+use lib.ListN.{length, take}
+use Rattle.hop_rule.specs.declared.Event.{Event}
+use Rattle.hop_rule.specs.Calls.{Call, make, Outcome, outcome}
+use Rattle.hop_core.specs.declared.PassAnswer.{PassAnswer}
+use Rattle.hop_core.specs.declared.PassAnswer.the-variants.{Delivered, Refused}
+use Rattle.hop_core.specs.Answers.{passed}
+use Rattle.hop_rule.specs.Records.{kindOf}
+use Rattle.hop_text.specs.Text.{eventLine}
+use Rattle.hop_replay.specs.Replay.{callOf, queued, appliedLine, events, played}
+
+-- An event is applied by its call.
+pub applied : (e : Event) (s : List ℕ) {c : Call} {o : Outcome} → callOf e ≡ c → o ≡ outcome c s [] → (o .number ≡ outcome (callOf e) s [] .number) × (o .bytes ≡ outcome (callOf e) s [] .bytes)
+applied e s h k = rw (h, ← k) (refl, refl)
+
+-- A pass's number does not depend on the bytes, and its bytes not on its number.
+pub passed-number : (a : PassAnswer) (s : List ℕ) → passed a [] .number ≡ passed a s .number
+passed-number (Delivered d) s = refl
+passed-number (Refused c) s = refl
+
+pub passed-bytes : (a : PassAnswer) (s : List ℕ) → s ≡ passed a s .bytes
+passed-bytes (Delivered d) s = refl
+passed-bytes (Refused c) s = refl
+
+-- Its line is made of these four numbers.
+pub applied-line : (ordinal : ℕ) (e : Event) (s : List ℕ) {kind code waits : ℕ} {t : List ℕ}
+    → (code ≡ outcome (callOf e) s [] .number) × (t ≡ outcome (callOf e) s [] .bytes)
+    → kind ≡ kindOf e
+    → waits ≡ queued t
+    → eventLine ordinal kind code waits ≡ appliedLine ordinal e s
+unfolding appliedLine
+applied-line ordinal e s h k w = rw (k, w, h .0, h .1)
+
+-- The events that are played, from the part of the script that is read and the bytes that making the state left.
+pub played-is : (script buffer : List ℕ) {input s : List ℕ} → input ≡ take 16384 script → s ≡ outcome (make 1) buffer [] .bytes
+    → events (suc (length input)) input 0 1 s ≡ played script buffer
+unfolding played
+played-is script buffer h k = rw (h, k)

@@ -1,0 +1,6 @@
+pub mod Applied
+pub mod Checked
+pub mod Left
+pub mod Routes
+pub mod Short
+pub mod Fine

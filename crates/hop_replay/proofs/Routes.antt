@@ -1,0 +1,56 @@
+-- Lines for 0, 1, .. n − 1, written one behind the other by a loop. Assumes nothing.
+use mathlib.Core.Path.{_≡_}
+use mathlib.Core.List.{List, _++_}
+use Prim.Native.Nat.{ℕ, zero, suc, _+_, _≤_, _<_}
+use native.Mathlib.Numerals.{add-one}
+use native.Mathlib.Decide.{ℕ-discrete}
+use native.Mathlib.Omega.{arith}
+use lib.ListN.{length, length-append}
+use Rattle.hop_rule.specs.declared.Table.the-variants.{Distances, Downstreams}
+use Rattle.hop_rule.specs.Words.{joined}
+use Rattle.hop_rule.specs.Stored.{nodes, read}
+use Rattle.hop_laws.proofs.Stored.{flat-at}
+use Rattle.hop_cells.specs.Cells.{get, get2}
+use Rattle.hop_text.specs.Text.{routeLine}
+use Rattle.hop_text.specs.Writing.{Ends, Wrote}
+use Rattle.hop_text.proofs.Writing.{wrote-nothing, wrote-both}
+use Rattle.hop_replay.specs.Replay.{routeAt, routesFrom, routeLines}
+
+module _ (f : ℕ → List ℕ) where
+  joined-less : (k n : ℕ) → k < n → length (joined k f) + length (f k) ≤ length (joined n f)
+  unfolding joined
+  joined-less k zero l = absurd (omega arith)
+  joined-less k (suc n) l = go (ℕ-discrete k n) (joined-less k n)
+    where
+      go : Dec (k ≡ n) → (k < n → length (joined k f) + length (f k) ≤ length (joined n f)) → length (joined k f) + length (f k) ≤ length (joined n f ++ f n)
+      go (yes e) h = rw e (omega (arith, length-append (joined n f) (f n)))
+      go (no e) h = omega (arith, h (omega arith), length-append (joined n f) (f n))
+
+  module _ {before : List ℕ} {from : ℕ} where
+    pub joined-none : Wrote (joined 0 f) before from before from
+    unfolding joined
+    joined-none = wrote-nothing before from
+
+    -- Where all lines have an end, the next one has.
+    pub joined-ends : (k n : ℕ) {here : List ℕ} {at : ℕ} → k < n → Ends (joined n f) from → Wrote (joined k f) before from here at → Ends (f k) at
+    joined-ends k n l e w = record { below = omega (arith, e .below, w .place, joined-less k n l) }
+
+    pub joined-turn : (k : ℕ) {here there : List ℕ} {at next : ℕ} → Wrote (joined k f) before from here at → Wrote (f k) here at there next → Wrote (joined (k + 1) f) before from there next
+    unfolding joined
+    joined-turn k w l = rw (add-one k) (wrote-both w l)
+
+-- ---- the lines of the state that bytes hold
+
+module _ (s : List ℕ) {n : ℕ} (e : nodes s ≡ n) where
+  -- The line of a pair, from the two bytes that were read.
+  pub route-read : (u v : ℕ) {d w : ℕ} → d ≡ get2 n Distances u v s → w ≡ get2 n Downstreams u v s → routeLine u v d w ≡ routeAt (read s) u v
+  unfolding routeAt read get
+  route-read u v h k = rw (h, k, flat-at s e Distances u v, flat-at s e Downstreams u v)
+
+  pub from-lines : (u : ℕ) → routesFrom (read s) u ≡ joined n (routeAt (read s) u)
+  unfolding routesFrom read
+  from-lines u = rw e
+
+  pub all-lines : routeLines (read s) ≡ joined n (routesFrom (read s))
+  unfolding routeLines read
+  all-lines = rw e

@@ -1,0 +1,83 @@
+-- `put_routes_from` meets its contract. The invariant: the lines of the destinations before v are written. Assumes nothing.
+use mathlib.Core.Path.{_≡_}
+use Prim.Native.Nat.{_-_, _≤_}
+use native.Mathlib.Omega.{arith}
+use borrow.Author.Needs.{needs}
+use Rattle.hop_rule.specs.Words.{joined}
+use Rattle.hop_rule.specs.Stored.{read}
+use Rattle.hop_text.specs.Writing.{Wrote}
+use Rattle.hop_text.proofs.Writing.{wrote-length}
+use Rattle.hop_replay.specs.Replay.{routeAt}
+use Rattle.hop_replay.proofs.Routes.{joined-none, joined-ends, joined-turn, route-read, from-lines}
+use Rattle.hop_replay.proofs.put_routes_from.Statement.{statement}
+use Rattle.hop_replay.proofs.put_routes_from.Tie as tie
+
+abbrev Inv-loop : tie.InvT-loop
+Inv-loop state n u out₀ at next₀ v₀ out next v = (v ≤ n) × Wrote (joined v (routeAt (read state) u)) out₀ at out next
+
+abbrev μ-loop : tie.MeasureT-loop
+μ-loop state n u out₀ at next₀ v₀ out next v = n - v
+
+loop-holds : tie.Need-loop-holds Inv-loop μ-loop
+loop-holds c = (search needs, joined-none _)
+
+get2-requires : tie.Need-get2-requires Inv-loop μ-loop
+get2-requires c κs = search needs
+
+get2-requires-2 : tie.Need-get2-requires-2 Inv-loop μ-loop
+get2-requires-2 c κs = search needs
+
+put-route-requires : tie.Need-put-route-requires Inv-loop μ-loop
+put-route-requires c κs =
+    let at-get22 = c .before in
+    let at-get2 = at-get22 .before in
+    let at-loop-test = at-get2 .before in
+    let at-loop = at-loop-test .before in
+    let at-args = at-loop .before .before .before in
+    let s = at-args .args .state .now in
+    let n = at-args .pre .1 in
+    rw (route-read s n (at-args .args .u) (at-loop .loop .v) (at-get2 .get2 .ensures .0) (at-get22 .get22 .ensures .0))
+    (joined-ends (routeAt (read s) (at-args .args .u)) (at-loop .loop .v) _ (at-loop-test .loop-test .taken) (rw (from-lines s n (at-args .args .u)) at (at-args .pre .3)) (at-loop .loop .inv .1))
+
+add-v : tie.Need-add-v Inv-loop μ-loop
+add-v c = search needs
+
+loop-less : tie.Need-loop-less Inv-loop μ-loop
+loop-less c = search needs
+
+loop-again : tie.Need-loop-again Inv-loop μ-loop
+loop-again c =
+    let at-put-route = c .before .before in
+    let at-get22 = at-put-route .before .before in
+    let at-get2 = at-get22 .before in
+    let at-loop = at-get2 .before .before in
+    let at-args = at-loop .before .before .before in
+    let s = at-args .args .state .now in
+    let n = at-args .pre .1 in
+    (search needs, joined-turn (routeAt (read s) (at-args .args .u)) (at-loop .loop .v) (at-loop .loop .inv .1) (rw (route-read s n (at-args .args .u) (at-loop .loop .v) (at-get2 .get2 .ensures .0) (at-get22 .get22 .ensures .0)) at (at-put-route .put-route .ensures)))
+
+same-length : tie.Need-same-length Inv-loop μ-loop
+same-length c = wrote-length (c .before .loop .inv .1)
+
+returns : tie.Need-returns Inv-loop μ-loop
+returns c =
+    let at-loop = c .before in
+    let at-args = at-loop .before .before .before in
+    let v : at-loop .loop .v ≡ at-args .args .n = omega (arith, at-loop .loop .inv .0, c .loop-test .left) in
+    rw (from-lines (at-args .args .state .now) (at-args .pre .1) (at-args .args .u), ← v) (at-loop .loop .inv .1)
+
+pub put-routes-from-spec : {M : Type 1} → statement M
+put-routes-from-spec =
+    tie.close
+    (tie.spec
+    Inv-loop
+    μ-loop
+    loop-holds
+    get2-requires
+    get2-requires-2
+    put-route-requires
+    add-v
+    loop-less
+    loop-again
+    same-length
+    returns)

@@ -1,0 +1,62 @@
+-- 01, 'The program': the worked input and what is printed for it, whole; the empty input; and a script that is refused twice.
+use mathlib.Core.Path.{_≡_, refl}
+use mathlib.Core.List.{List, [], _∷_, _++_}
+use Prim.Native.Nat.{ℕ}
+use Rattle.hop_rule.specs.Words.{loop, sum, listed, joined, every, first}
+use Rattle.hop_rule.specs.Rule as rule
+use Rattle.hop_rule.specs.Rule.{least, nearest, route, send, recompute, hear, linkUp, total, fresh}
+use Rattle.hop_rule.specs.Stored.{size, grid, cube, destinationAt, valueAt, block, stored, start, flat, deep, read}
+use Rattle.hop_rule.specs.Sound.{waits, differ, each, pairs, triples, isSound, isSoundBytes}
+use Rattle.hop_rule.specs.Records.{wordAt, kindOf, known, lengthOf, eventAt, readEvent}
+use Rattle.hop_rule.specs.Calls.{judge, refusals, done, outcome}
+use Rattle.hop_text.specs.Text.{digits, number, header, eventLine, downstreamEnd, routeLine}
+use Rattle.hop_replay.specs.Replay.{callOf, queued, appliedLine, events, routeAt, routesFrom, routeLines, routes, played, replayed, program}
+
+-- 04 00 0f 00 02 00 06 00 10 00 00 00 01 00 02 00 13 00 02 00 13 00: make 2, up 0 1, pass, pass.
+unfoldable pub worked : List ℕ
+worked = 4 ∷ 0 ∷ 15 ∷ 0 ∷ 2 ∷ 0 ∷ 6 ∷ 0 ∷ 16 ∷ 0 ∷ 0 ∷ 0 ∷ 1 ∷ 0 ∷ 2 ∷ 0 ∷ 19 ∷ 0 ∷ 2 ∷ 0 ∷ 19 ∷ 0 ∷ []
+
+-- The lines after the header.
+unfoldable pub printed : List ℕ
+printed =
+    -- 1 15 0 0
+    49 ∷ 32 ∷ 49 ∷ 53 ∷ 32 ∷ 48 ∷ 32 ∷ 48 ∷ 10
+    -- 2 16 0 4
+    ∷ 50 ∷ 32 ∷ 49 ∷ 54 ∷ 32 ∷ 48 ∷ 32 ∷ 52 ∷ 10
+    -- 3 19 0 1
+    ∷ 51 ∷ 32 ∷ 49 ∷ 57 ∷ 32 ∷ 48 ∷ 32 ∷ 49 ∷ 10
+    -- 4 19 0 0
+    ∷ 52 ∷ 32 ∷ 49 ∷ 57 ∷ 32 ∷ 48 ∷ 32 ∷ 48 ∷ 10
+    -- d 0 0 0 0
+    ∷ 100 ∷ 32 ∷ 48 ∷ 32 ∷ 48 ∷ 32 ∷ 48 ∷ 32 ∷ 48 ∷ 10
+    -- d 0 1 1 1
+    ∷ 100 ∷ 32 ∷ 48 ∷ 32 ∷ 49 ∷ 32 ∷ 49 ∷ 32 ∷ 49 ∷ 10
+    -- d 1 0 1 0
+    ∷ 100 ∷ 32 ∷ 49 ∷ 32 ∷ 48 ∷ 32 ∷ 49 ∷ 32 ∷ 48 ∷ 10
+    -- d 1 1 0 1
+    ∷ 100 ∷ 32 ∷ 49 ∷ 32 ∷ 49 ∷ 32 ∷ 48 ∷ 32 ∷ 49 ∷ 10
+    ∷ []
+
+pub worked-text : program worked ≡ header ++ printed
+unfolding worked printed program replayed played events appliedLine queued callOf routes routeLines routesFrom routeAt routeLine downstreamEnd eventLine header number digits outcome done refusals judge isSoundBytes isSound triples pairs each differ waits readEvent eventAt lengthOf known kindOf wordAt read deep flat start stored block valueAt destinationAt cube grid size fresh total rule.pass linkUp rule.deliver hear recompute send route nearest least first every joined listed sum loop
+worked-text = refl
+
+-- Empty input prints the header and `d 0 0 0 0`.
+pub empty-text : program [] ≡ header ++ (100 ∷ 32 ∷ 48 ∷ 32 ∷ 48 ∷ 32 ∷ 48 ∷ 32 ∷ 48 ∷ 10 ∷ [])
+unfolding program replayed played events appliedLine queued callOf routes routeLines routesFrom routeAt routeLine downstreamEnd eventLine header number digits outcome done refusals judge isSoundBytes isSound triples pairs each differ waits readEvent eventAt lengthOf known kindOf wordAt read deep flat start stored block valueAt destinationAt cube grid size fresh total rule.pass linkUp rule.deliver hear recompute send route nearest least first every joined listed sum loop
+empty-text = refl
+
+-- 04 00 0f 00 00 00 02 00 14 00 02 00 13 00: make 0, which is refused, a record of kind 20, and a pass that is not read.
+unfoldable pub stopped : List ℕ
+stopped = 4 ∷ 0 ∷ 15 ∷ 0 ∷ 0 ∷ 0 ∷ 2 ∷ 0 ∷ 20 ∷ 0 ∷ 2 ∷ 0 ∷ 19 ∷ 0 ∷ []
+
+pub stopped-text : program stopped
+    -- 1 15 1 0
+    ≡ header ++ (49 ∷ 32 ∷ 49 ∷ 53 ∷ 32 ∷ 49 ∷ 32 ∷ 48 ∷ 10
+    -- 2 0 10 0
+    ∷ 50 ∷ 32 ∷ 48 ∷ 32 ∷ 49 ∷ 48 ∷ 32 ∷ 48 ∷ 10
+    -- d 0 0 0 0
+    ∷ 100 ∷ 32 ∷ 48 ∷ 32 ∷ 48 ∷ 32 ∷ 48 ∷ 32 ∷ 48 ∷ 10
+    ∷ [])
+unfolding stopped program replayed played events appliedLine queued callOf routes routeLines routesFrom routeAt routeLine downstreamEnd eventLine header number digits outcome done refusals judge isSoundBytes isSound triples pairs each differ waits readEvent eventAt lengthOf known kindOf wordAt read deep flat start stored block valueAt destinationAt cube grid size fresh total rule.pass linkUp rule.deliver hear recompute send route nearest least first every joined listed sum loop
+stopped-text = refl

@@ -1,0 +1,166 @@
+// A script of records to the program's text: each event is applied by its public call and printed, and at the end every route.
+
+use hop_ask::Answer;
+use hop_ask::total_queued;
+use hop_cells::get2;
+use hop_cells::wide;
+use hop_core::PassAnswer;
+use hop_records::read_event;
+use hop_rule::Event;
+use hop_rule::Reading;
+use hop_rule::Table;
+use hop_text::put_event;
+use hop_text::put_header;
+use hop_text::put_route;
+ghost use mathlib.Core.Path.{_≡_};
+ghost use mathlib.Core.List.{[]};
+ghost use Prim.Native.Nat.{suc, _≤_, _<_};
+ghost use lib.ListN.{length, take};
+ghost use Rattle.hop_rule.specs.Stored.{nodes, read};
+ghost use Rattle.hop_rule.specs.Records.{kindOf};
+ghost use Rattle.hop_rule.specs.Calls.{outcome};
+ghost use Rattle.hop_cells.specs.Cells.{Room};
+ghost use Rattle.hop_core.specs.Answers.{passed};
+ghost use Rattle.hop_text.specs.Writing.{Ends, Wrote};
+ghost use Rattle.hop_replay.specs.Replay as replay;
+ghost use Rattle.hop_replay.specs.Replay.{callOf, appliedLine, events, routesFrom, routeLines, routes, replayed};
+
+fn kind_of(e: Event) -> usize
+    ensures { λ r. ⌜ r ≡ kindOf e ⌝ }
+{
+    match e {
+        Event::Make(_) => 15,
+        Event::Up(_, _) => 16,
+        Event::Down(_, _) => 17,
+        Event::Deliver(_, _) => 18,
+        Event::Pass => 19,
+    }
+}
+
+// The refusal number of a pass; what it delivered is not printed.
+fn number_of(answer: PassAnswer) -> u32
+    ensures { λ r. ⌜ r ≡ passed answer [] .number ⌝ }
+{
+    match answer {
+        PassAnswer::Delivered(_) => 0,
+        PassAnswer::Refused(c) => c,
+    }
+}
+
+// Applies an event, and answers its refusal number.
+fn apply(state: &mut [u8], e: Event) -> u32
+    ensures { λ r. ⌜ (r ≡ outcome (callOf e) (now (state .entry)) [] .number) × (now (state .exit) ≡ outcome (callOf e) (now (state .entry)) [] .bytes) ⌝ }
+{
+    match e {
+        Event::Make(n) => hop_core::make(state, n as usize),
+        Event::Up(a, b) => hop_core::up(state, a as usize, b as usize),
+        Event::Down(a, b) => hop_core::down(state, a as usize, b as usize),
+        Event::Deliver(w, u) => hop_core::deliver(state, w as usize, u as usize),
+        Event::Pass => number_of(hop_core::pass(state)),
+    }
+}
+
+fn queued(state: &[u8]) -> usize
+    ensures { λ r. ⌜ r ≡ replay.queued (now (state .entry)) ⌝ }
+{
+    match total_queued(state) {
+        Answer::Value(x) => x as usize,
+        Answer::Refused(_) => 0,
+    }
+}
+
+// Applies an event, and prints its line.
+fn put_applied(state: &mut [u8], out: &mut [u8], at: usize, ordinal: usize, e: Event) -> usize
+    requires { ⌜ Ends (appliedLine ordinal e (now state)) at ⌝ }
+    ensures { λ r. ⌜ Wrote (appliedLine ordinal e (now (state .entry))) (now (out .entry)) at (now (out .exit)) r × (now (state .exit) ≡ outcome (callOf e) (now (state .entry)) [] .bytes) ⌝ }
+{
+    let code = apply(state, e);
+    put_event(out, at, ordinal, kind_of(e), code as usize, queued(state))
+}
+
+// The records one after another: a refused event is printed and the next is applied, a refused record is printed and ends the reading.
+fn put_events(script: &[u8], state: &mut [u8], out: &mut [u8], at: usize) -> usize
+    requires { ⌜ Ends (events (suc (length (now script))) (now script) 0 1 (now state) .text) at ⌝ }
+    ensures { λ r. ⌜ Wrote (events (suc (length (now (script .entry)))) (now (script .entry)) 0 1 (now (state .entry)) .text) (now (out .entry)) at (now (out .exit)) r
+        × (now (state .exit) ≡ events (suc (length (now (script .entry)))) (now (script .entry)) 0 1 (now (state .entry)) .bytes) ⌝ }
+{
+    let mut next = at;
+    let mut place = 0;
+    let mut ordinal = 1;
+    loop {
+        let reading = read_event(script, place);
+        let Reading::Found(e, after) = reading else {
+            let Reading::Refused(code) = reading else {
+                return next;
+            };
+            return put_event(out, next, ordinal, 0, code as usize, queued(state));
+        };
+        next = put_applied(state, out, next, ordinal, e);
+        place = after;
+        ordinal += 1;
+    }
+}
+
+// The routes of one node.
+fn put_routes_from(state: &[u8], n: usize, u: usize, out: &mut [u8], at: usize) -> usize
+    requires { ⌜ Room n (now state) × (nodes (now state) ≡ n) × (u < n) × Ends (routesFrom (read (now state)) u) at ⌝ }
+    ensures { λ r. ⌜ Wrote (routesFrom (read (now (state .entry))) u) (now (out .entry)) at (now (out .exit)) r ⌝ }
+{
+    let mut next = at;
+    let mut v = 0;
+    while v < n {
+        let distance = get2(state, n, Table::Distances, u, v);
+        let downstream = get2(state, n, Table::Downstreams, u, v);
+        next = put_route(out, next, u, v, distance, downstream);
+        v += 1;
+    }
+    next
+}
+
+// The routes of every node.
+fn put_all_routes(state: &[u8], n: usize, out: &mut [u8], at: usize) -> usize
+    requires { ⌜ Room n (now state) × (nodes (now state) ≡ n) × Ends (routeLines (read (now state))) at ⌝ }
+    ensures { λ r. ⌜ Wrote (routeLines (read (now (state .entry)))) (now (out .entry)) at (now (out .exit)) r ⌝ }
+{
+    let mut next = at;
+    let mut u = 0;
+    while u < n {
+        next = put_routes_from(state, n, u, out, next);
+        u += 1;
+    }
+    next
+}
+
+// The routes, if there is a state.
+fn put_routes(state: &[u8], out: &mut [u8], at: usize) -> usize
+    requires { ⌜ Ends (routes (now state)) at ⌝ }
+    ensures { λ r. ⌜ Wrote (routes (now (state .entry))) (now (out .entry)) at (now (out .exit)) r ⌝ }
+{
+    if hop_core::check(state) != 0 {
+        return at;
+    }
+    put_all_routes(state, wide(state[0]), out, at)
+}
+
+// The part of a script that is read.
+fn input_of(script: &[u8]) -> &[u8]
+    ensures { λ r. ⌜ now r ≡ take 16384 (now (script .entry)) ⌝ }
+{
+    if script.len() <= 16384 {
+        return script;
+    }
+    &script[..16384]
+}
+
+// The text of a script, written to out as far as it has room, over a state in the lent buffer. The answer is the text's length: no text has more than 92,072 bytes.
+pub fn replay(script: &[u8], state: &mut [u8], out: &mut [u8]) -> usize
+    ensures { λ r. ⌜ Wrote (replayed (now (script .entry)) (now (state .entry)) .text) (now (out .entry)) 0 (now (out .exit)) r
+        × (now (state .exit) ≡ replayed (now (script .entry)) (now (state .entry)) .bytes)
+        × (r ≤ 92072) ⌝ }
+{
+    let input = input_of(script);
+    hop_core::make(state, 1);
+    let next = put_header(out, 0);
+    let next = put_events(input, state, out, next);
+    put_routes(state, out, next)
+}

@@ -1,0 +1,182 @@
+/* drive.c: the calls from C through hop.h, on buffers of exact size from malloc, for valgrind and the sanitizers.
+ * Uses hop.h and the C library. Memory is left as malloc gives it wherever no byte may be read: a make in it, the
+ * bytes behind a state, an output. What the answers should be is the comparison's matter; here a few are looked at.
+ */
+#include "hop.h"
+
+#include <stdio.h>
+#include <stdlib.h>
+#include <string.h>
+
+static unsigned long calls;
+
+static void must(int holds, const char *what, int line)
+{
+    calls++;
+    if (!holds) {
+        fprintf(stderr, "line %d: %s does not hold\n", line, what);
+        exit(EXIT_FAILURE);
+    }
+}
+#define MUST(holds) must((holds), #holds, __LINE__)
+
+/* A small generator: the same numbers each time. */
+static uint64_t word = 88172645463325252u;
+static size_t below(size_t limit)
+{
+    word ^= word << 13;
+    word ^= word >> 7;
+    word ^= word << 17;
+    return (size_t)(word % limit);
+}
+
+static uint8_t *room(size_t size)
+{
+    uint8_t *bytes = malloc(size ? size : 1);
+    if (bytes == NULL)
+        exit(EXIT_FAILURE);
+    return bytes;
+}
+
+/* No bytes at all, also by no pointer. */
+static void nothing(void)
+{
+    size_t place = 0;
+    hop_event event;
+    MUST(hop_make(NULL, 0, 1) == 2);
+    MUST(hop_make(NULL, 0, 41) == 1);
+    MUST(hop_check(NULL, 0) == 2);
+    MUST(hop_up(NULL, 0, 0, 1) == 2);
+    MUST(hop_down(NULL, 0, 0, 1) == 2);
+    MUST(hop_deliver(NULL, 0, 0, 1) == 2);
+    MUST(hop_pass(NULL, 0).code == 2);
+    MUST(hop_run(NULL, 0, 255).code == 2);
+    MUST(hop_distance(NULL, 0, 0, 0).code == 2);
+    MUST(hop_downstream(NULL, 0, 0, 0).code == 2);
+    MUST(hop_queue_length(NULL, 0, 0, 1).code == 2);
+    MUST(hop_total_queued(NULL, 0).code == 2);
+    MUST(hop_status(NULL, 0, 0, NULL, 0).code == 2);
+    MUST(hop_write_event(19, 0, 0, NULL, 0).code == 2);
+    MUST(hop_write_event(20, 0, 0, NULL, 0).code == 10);
+    event = hop_read_event(NULL, 0, &place);
+    MUST(event.code == 0 && event.kind == 0 && place == 0);
+    place = 1;
+    MUST(hop_read_event(NULL, 0, &place).code == 9 && place == 1);
+}
+
+/* Buffers that are too short: only the first byte of one may be read. */
+static void short_buffers(size_t n)
+{
+    size_t size = hop_size(n);
+    size_t lengths[3] = {1, 1 + below(size), size - 1};
+    for (size_t k = 0; k < 3; k++) {
+        size_t length = lengths[k] < size ? lengths[k] : size - 1;
+        uint8_t *state = room(length);
+        MUST(hop_make(state, length, n) == 2);
+        state[0] = (uint8_t)n;
+        MUST(hop_check(state, length) == 2);
+        MUST(hop_up(state, length, 0, 1) == 2);
+        MUST(hop_pass(state, length).code == 2);
+        state[0] = 41;
+        MUST(hop_check(state, length) == 1);
+        free(state);
+    }
+}
+
+static void questions(const uint8_t *state, size_t length, size_t n)
+{
+    size_t u = below(n), v = below(n);
+    MUST(hop_distance(state, length, u, v).value <= n);
+    MUST(hop_downstream(state, length, u, u).value == u);
+    MUST(hop_queue_length(state, length, u, v).code == (u == v ? 5u : 0u));
+    MUST(hop_distance(state, length, n, v).code == 4);
+    MUST(hop_total_queued(state, length).value <= n * n * (n - 1));
+    uint8_t *record = room(14);
+    hop_answer status = hop_status(state, length, u, record, 14);
+    MUST(status.code == 0 && status.value == 14 && record[0] == 12 && record[4] == u);
+    MUST(hop_status(state, length, u, record, 13).code == 2);
+    free(record);
+}
+
+/* Random events in a buffer with bytes behind the state that nobody has written. */
+static void events(size_t n, size_t behind, int steps)
+{
+    size_t length = hop_size(n) + behind;
+    uint8_t *state = room(length);
+    MUST(hop_make(state, length, n) == 0);
+    for (int k = 0; k < steps; k++) {
+        size_t a = below(n), b = below(n);
+        uint32_t code;
+        switch (below(6)) {
+        case 0:
+        case 1:
+            code = hop_up(state, length, a, b);
+            MUST(code == 0 || code == 5 || code == 6);
+            break;
+        case 2:
+            code = hop_down(state, length, a, b);
+            MUST(code == 0 || code == 5 || code == 7);
+            break;
+        case 3:
+            code = hop_deliver(state, length, a, b);
+            MUST(code == 0 || code == 5 || code == 7 || code == 8);
+            break;
+        case 4: {
+            uint32_t waiting = hop_total_queued(state, length).value;
+            MUST(hop_pass(state, length).value == waiting);
+            break;
+        }
+        default:
+            MUST(hop_run(state, length, (uint8_t)below(3)).code == 0);
+        }
+        questions(state, length, n);
+    }
+    hop_ran ran = hop_run(state, length, 255);
+    MUST(ran.code == 0 && ran.passes <= n);
+    MUST(hop_total_queued(state, length).value == 0);
+    MUST(hop_check(state, length) == 0);
+    state[1] = 2;
+    MUST(hop_check(state, length) == 3);
+    MUST(hop_run(state, length, 255).code == 3);
+    free(state);
+}
+
+/* Records of exact length, whole and cut. */
+static void records(void)
+{
+    static const size_t bytes[5] = {6, 8, 8, 8, 4};
+    for (uint32_t kind = 15; kind <= 19; kind++) {
+        size_t length = bytes[kind - 15];
+        uint8_t *record = room(length);
+        hop_answer written = hop_write_event(kind, 0x0102, 0xfffe, record, length);
+        MUST(written.code == 0 && written.value == length);
+        MUST(hop_write_event(kind, 1, 2, record, length - 1).code == 2);
+        size_t place = 0;
+        hop_event event = hop_read_event(record, length, &place);
+        MUST(event.code == 0 && event.kind == kind && place == length);
+        MUST(event.first == (kind == 19 ? 0u : 0x0102u));
+        MUST(event.second == (kind == 15 || kind == 19 ? 0u : 0xfffeu));
+        for (size_t cut = 1; cut < length; cut++) {
+            uint8_t *part = room(cut);
+            memcpy(part, record, cut);
+            place = 0;
+            MUST(hop_read_event(part, cut, &place).code == 9 && place == 0);
+            free(part);
+        }
+        free(record);
+    }
+}
+
+int main(int count, char **words)
+{
+    /* The first word says how many events each state goes through. */
+    int steps = count > 1 ? atoi(words[1]) : 40;
+    nothing();
+    records();
+    for (size_t n = 1; n <= 40; n++) {
+        short_buffers(n);
+        events(n, n % 3 == 0 ? 0 : n, n <= 12 ? steps : 1 + steps / 10);
+    }
+    printf("%lu calls from C, all as the header says\n", calls);
+    return 0;
+}

@@ -1,0 +1,263 @@
+//! Damage to stored states: any bytes, and for each clause of soundness ways to break it. Uses the stored blocks.
+
+use super::random::Random;
+use crate::second::sound::Clause;
+use crate::second::stored::{Blocks, NONE};
+
+/// A byte of one of the blocks: each block as often as another, whatever its size.
+fn cell<'a>(random: &mut Random, blocks: &'a mut Blocks) -> &'a mut u8 {
+    let n = usize::from(blocks.n);
+    let (x, y, z) = (random.below(n), random.below(n), random.below(n));
+    match random.below(8) {
+        0 => &mut blocks.links[x][y],
+        1 => &mut blocks.distances[x][y],
+        2 => &mut blocks.downstreams[x][y],
+        3 => &mut blocks.views[x][y][z],
+        4 => &mut blocks.lengths[x][y],
+        5 => &mut blocks.destinations[x][y][z],
+        6 => &mut blocks.values[x][y][z],
+        _ => &mut blocks.links[x][x],
+    }
+}
+
+/// A byte near the edges that the clauses speak of, or any.
+pub fn value(random: &mut Random, n: u8, old: u8) -> u8 {
+    let near =
+        [0, 1, n.wrapping_sub(1), n, n.wrapping_add(1), NONE, old.wrapping_add(1), old.wrapping_sub(1), old ^ 128];
+    if random.chance(80) { *random.pick(&near) } else { random.byte() }
+}
+
+/// Changes so many single bytes of the blocks.
+pub fn bytes(random: &mut Random, blocks: &mut Blocks, count: usize) {
+    for _ in 0..count {
+        let n = blocks.n;
+        let cell = cell(random, blocks);
+        *cell = value(random, n, *cell);
+    }
+}
+
+/// Changes a whole row, square or block to one byte or to any bytes.
+pub fn stretch(random: &mut Random, stored: &mut [u8]) {
+    let n = usize::from(stored[0]);
+    let length = *random.pick(&[2, n, n * n, n * n * n]);
+    let first = random.between(1, stored.len() - 1);
+    let stretch = &mut stored[first..];
+    let length = length.clamp(1, stretch.len());
+    let filled = random.chance(50).then(|| value(random, n as u8, 0));
+    for byte in &mut stretch[..length] {
+        *byte = filled.unwrap_or_else(|| random.byte());
+    }
+}
+
+/// A way to break soundness: does it where the state has a place for it, and says which clause is then broken.
+pub type Damage = fn(&mut Random, &mut Blocks) -> Option<Clause>;
+
+pub const DAMAGES: &[Damage] = &[
+    link_byte,
+    one_sided_link,
+    half_up,
+    diagonal_link,
+    distance,
+    downstream,
+    equal_downstream,
+    view_over_n,
+    down_view,
+    own_view,
+    down_queue,
+    own_queue,
+    length_over_n,
+    same_destination_twice,
+    destination_not_below_n,
+    other_value,
+    other_view,
+    destination_past,
+    value_past,
+    shorter_queue,
+];
+
+/// One of the places for which a test holds, with the link's nodes and a third number below n.
+fn place(random: &mut Random, n: u8, test: impl Fn(usize, usize, usize) -> bool) -> Option<(usize, usize, usize)> {
+    let n = usize::from(n);
+    // A few tries are enough where places are many, and where they are few the damage is left out.
+    (0..200).map(|_| (random.below(n), random.below(n), random.below(n))).find(|&(x, y, z)| test(x, y, z))
+}
+
+fn other(random: &mut Random, n: u8, old: u8) -> u8 {
+    loop {
+        let byte = value(random, n, old);
+        if byte != old {
+            return byte;
+        }
+    }
+}
+
+fn link_byte(random: &mut Random, blocks: &mut Blocks) -> Option<Clause> {
+    let (a, b, _) = place(random, blocks.n, |a, b, _| a != b)?;
+    let byte = random.between(2, 255) as u8;
+    blocks.links[a][b] = byte;
+    blocks.links[b][a] = byte;
+    Some(Clause::LinkIsZeroOrOne)
+}
+
+fn one_sided_link(random: &mut Random, blocks: &mut Blocks) -> Option<Clause> {
+    let (a, b, _) = place(random, blocks.n, |a, b, _| a != b)?;
+    blocks.links[a][b] ^= 1;
+    Some(Clause::LinksSymmetric)
+}
+
+/// One byte of a down link is 1, and a queue on it holds what link up puts there: all else is as it should be,
+/// whether a reader takes the sender's byte or the receiver's for the queue.
+fn half_up(random: &mut Random, blocks: &mut Blocks) -> Option<Clause> {
+    let (a, b, _) = place(random, blocks.n, |a, b, _| a != b && blocks.links[a][b] == 0)?;
+    let (sender, receiver) = if random.chance(50) { (a, b) } else { (b, a) };
+    blocks.links[a][b] = 1;
+    blocks.lengths[sender][receiver] = blocks.n;
+    blocks.destinations[sender][receiver] = (0..blocks.n).collect();
+    blocks.values[sender][receiver] = blocks.distances[sender].clone();
+    Some(Clause::LinksSymmetric)
+}
+
+fn diagonal_link(random: &mut Random, blocks: &mut Blocks) -> Option<Clause> {
+    let (u, _, _) = place(random, blocks.n, |_, _, _| true)?;
+    blocks.links[u][u] = other(random, blocks.n, 0);
+    Some(Clause::LinkDiagonalZero)
+}
+
+fn distance(random: &mut Random, blocks: &mut Blocks) -> Option<Clause> {
+    let (u, v, _) = place(random, blocks.n, |_, _, _| true)?;
+    blocks.distances[u][v] = other(random, blocks.n, blocks.distances[u][v]);
+    Some(Clause::DistanceRecomputed)
+}
+
+fn downstream(random: &mut Random, blocks: &mut Blocks) -> Option<Clause> {
+    let (u, v, _) = place(random, blocks.n, |_, _, _| true)?;
+    blocks.downstreams[u][v] = other(random, blocks.n, blocks.downstreams[u][v]);
+    Some(Clause::DownstreamRecomputed)
+}
+
+/// A neighbour that gives the same distance, and is not the lowest-numbered one.
+fn equal_downstream(random: &mut Random, blocks: &mut Blocks) -> Option<Clause> {
+    let (u, w, v) = place(random, blocks.n, |u, w, v| {
+        let downstream = blocks.downstreams[u][v];
+        let gives = blocks.links[u][w] == 1 && downstream != NONE && u != v && usize::from(downstream) != w;
+        gives && blocks.views[u][w][v] == blocks.views[u][usize::from(downstream)][v]
+    })?;
+    blocks.downstreams[u][v] = w as u8;
+    Some(Clause::DownstreamRecomputed)
+}
+
+/// A view of a destination that waits and that another neighbour is nearer to: no other clause speaks of it.
+fn view_over_n(random: &mut Random, blocks: &mut Blocks) -> Option<Clause> {
+    let n = blocks.n;
+    let (u, w, v) = place(random, n, |u, w, v| {
+        let length = usize::from(blocks.lengths[w][u]);
+        let waits = blocks.destinations[w][u][..length].contains(&(v as u8));
+        waits && usize::from(blocks.downstreams[u][v]) != w
+    })?;
+    blocks.views[u][w][v] = if random.chance(50) { n + 1 } else { random.between(usize::from(n) + 1, 255) as u8 };
+    Some(Clause::ViewAtMostN)
+}
+
+fn down_view(random: &mut Random, blocks: &mut Blocks) -> Option<Clause> {
+    let (u, w, v) = place(random, blocks.n, |u, w, _| u != w && blocks.links[u][w] == 0)?;
+    blocks.views[u][w][v] = other(random, blocks.n, blocks.n);
+    Some(Clause::DownViewIsN)
+}
+
+fn own_view(random: &mut Random, blocks: &mut Blocks) -> Option<Clause> {
+    let (u, v, _) = place(random, blocks.n, |_, _, _| true)?;
+    blocks.views[u][u][v] = other(random, blocks.n, blocks.n);
+    Some(Clause::DownViewIsN)
+}
+
+fn down_queue(random: &mut Random, blocks: &mut Blocks) -> Option<Clause> {
+    let (w, u, v) = place(random, blocks.n, |w, u, _| w != u && blocks.links[w][u] == 0)?;
+    one_entry(blocks, w, u, v)
+}
+
+fn own_queue(random: &mut Random, blocks: &mut Blocks) -> Option<Clause> {
+    let (u, v, _) = place(random, blocks.n, |_, _, _| true)?;
+    one_entry(blocks, u, u, v)
+}
+
+/// An entry as it would stand in a queue of an up link.
+fn one_entry(blocks: &mut Blocks, w: usize, u: usize, v: usize) -> Option<Clause> {
+    blocks.lengths[w][u] = 1;
+    blocks.destinations[w][u][0] = v as u8;
+    blocks.values[w][u][0] = blocks.distances[w][v];
+    Some(Clause::DownQueueEmpty)
+}
+
+fn length_over_n(random: &mut Random, blocks: &mut Blocks) -> Option<Clause> {
+    let n = blocks.n;
+    let (w, u, _) = place(random, n, |w, u, _| blocks.lengths[w][u] == n)?;
+    blocks.lengths[w][u] = *random.pick(&[n + 1, n + 2, 128, 255]);
+    Some(Clause::LengthAtMostN)
+}
+
+/// A place of a queue that is in use.
+fn waiting(random: &mut Random, blocks: &Blocks) -> Option<(usize, usize, usize)> {
+    place(random, blocks.n, |w, u, at| at < usize::from(blocks.lengths[w][u]))
+}
+
+/// An entry whose destination need not wait gives way to a second one of another destination.
+fn same_destination_twice(random: &mut Random, blocks: &mut Blocks) -> Option<Clause> {
+    let (w, u, at) = place(random, blocks.n, |w, u, at| {
+        let v = usize::from(blocks.destinations[w][u][at]);
+        let length = usize::from(blocks.lengths[w][u]);
+        length > 1 && at < length && blocks.views[u][w][v] == blocks.distances[w][v]
+    })?;
+    let twice = (at + random.between(1, usize::from(blocks.lengths[w][u]) - 1)) % usize::from(blocks.lengths[w][u]);
+    blocks.destinations[w][u][at] = blocks.destinations[w][u][twice];
+    blocks.values[w][u][at] = blocks.values[w][u][twice];
+    Some(Clause::DestinationsDiffer)
+}
+
+fn destination_not_below_n(random: &mut Random, blocks: &mut Blocks) -> Option<Clause> {
+    let (w, u, at) = waiting(random, blocks)?;
+    blocks.destinations[w][u][at] = random.between(usize::from(blocks.n), 255) as u8;
+    Some(Clause::DestinationBelowN)
+}
+
+fn other_value(random: &mut Random, blocks: &mut Blocks) -> Option<Clause> {
+    let (w, u, at) = waiting(random, blocks)?;
+    blocks.values[w][u][at] = other(random, blocks.n, blocks.values[w][u][at]);
+    Some(Clause::ValueIsDistance)
+}
+
+/// A view of a destination that does not wait: larger ones often leave the recomputed distance as it is.
+fn other_view(random: &mut Random, blocks: &mut Blocks) -> Option<Clause> {
+    let (w, u, v) = place(random, blocks.n, |w, u, v| {
+        let length = usize::from(blocks.lengths[w][u]);
+        let waits = blocks.destinations[w][u][..length].contains(&(v as u8));
+        blocks.links[w][u] == 1 && !waits && blocks.views[u][w][v] < blocks.n
+    })?;
+    blocks.views[u][w][v] += 1;
+    Some(Clause::NotWaitingIsHeard)
+}
+
+fn free_place(random: &mut Random, blocks: &Blocks) -> Option<(usize, usize, usize)> {
+    place(random, blocks.n, |w, u, at| at >= usize::from(blocks.lengths[w][u]))
+}
+
+fn destination_past(random: &mut Random, blocks: &mut Blocks) -> Option<Clause> {
+    let (w, u, at) = free_place(random, blocks)?;
+    blocks.destinations[w][u][at] = other(random, blocks.n, 0);
+    Some(Clause::PlacesPastZero)
+}
+
+fn value_past(random: &mut Random, blocks: &mut Blocks) -> Option<Clause> {
+    let (w, u, at) = free_place(random, blocks)?;
+    blocks.values[w][u][at] = other(random, blocks.n, 0);
+    Some(Clause::PlacesPastZero)
+}
+
+/// A length that leaves the last entry standing behind it.
+fn shorter_queue(random: &mut Random, blocks: &mut Blocks) -> Option<Clause> {
+    let (w, u, _) = place(random, blocks.n, |w, u, _| {
+        let length = usize::from(blocks.lengths[w][u]);
+        length > 0 && (blocks.destinations[w][u][length - 1], blocks.values[w][u][length - 1]) != (0, 0)
+    })?;
+    blocks.lengths[w][u] -= 1;
+    Some(Clause::PlacesPastZero)
+}

@@ -1,0 +1,177 @@
+//! Where the core and the second implementation meet: one call, the same bytes, every answer and byte compared.
+//! Uses the calls, the fences and the second implementation.
+
+use super::call::{Answers, Call};
+use super::fence::{Fence, Placement};
+use crate::engine::{Answer, Engine, Read};
+use crate::second::Second;
+use crate::second::rule::State;
+use crate::second::stored::{size, stored};
+use std::path::PathBuf;
+
+/// The most bytes that a buffer has here: a state of 40 nodes, and some behind it.
+pub const MOST_BYTES: usize = 198_401 + 1024;
+
+/// What a call should come to.
+pub struct Outcome {
+    pub answers: Answers,
+    pub state: Vec<u8>,
+    pub out: Vec<u8>,
+}
+
+/// The core under comparison with its fences, and the built program where there is one.
+pub struct Ground<'a> {
+    pub core: &'a dyn Engine,
+    pub program: PathBuf,
+    state: Fence,
+    out: Fence,
+    turn: usize,
+}
+
+/// An output before a call: bytes that no record is likely to have.
+fn blank(room: usize) -> Vec<u8> {
+    (0..room).map(|place| 0xd0 ^ place as u8).collect()
+}
+
+/// What the second implementation makes of a call.
+pub fn outcome(before: &[u8], call: &Call) -> Outcome {
+    let (mut state, mut out) = (before.to_vec(), blank(call.room()));
+    let answers = call.on(&Second, &mut state, &mut out);
+    Outcome { answers, state, out }
+}
+
+impl<'a> Ground<'a> {
+    pub fn new(core: &'a dyn Engine, program: PathBuf) -> Ground<'a> {
+        Ground { core, program, state: Fence::new(MOST_BYTES), out: Fence::new(MOST_BYTES), turn: 0 }
+    }
+
+    /// The placements take turns, so that each call meets each.
+    fn placement(&mut self) -> Placement {
+        self.turn += 1;
+        Placement::ALL[self.turn % 3]
+    }
+
+    /// Has the core do a call and holds it to an outcome.
+    pub fn hold(&mut self, before: &[u8], call: &Call, should: &Outcome) -> Result<(), String> {
+        let (of_state, of_out) = (self.placement(), self.placement());
+        let state = self.state.put(before, of_state);
+        let out = self.out.put(&blank(call.room()), of_out);
+        let answers = call.on(self.core, self.state.lent(&state), self.out.lent(&out));
+        let differs = |what: String| Err(format!("{call:?}: {what}\n  on {}", shown(before)));
+        if answers != should.answers {
+            return differs(format!("answers {answers:?}, should be {:?}", should.answers));
+        }
+        if let Some(at) = first_difference(self.state.lent(&state), &should.state) {
+            let (is, named) = (self.state.lent(&state)[at], name_of(&should.state, at));
+            return differs(format!("byte {at} ({named}) is {is}, should be {}", should.state[at]));
+        }
+        if self.out.lent(&out) != should.out {
+            return differs(format!("the output is {}, should be {}", hex(self.out.lent(&out)), hex(&should.out)));
+        }
+        if !self.state.intact(&state) || !self.out.intact(&out) {
+            return differs("a byte outside the buffer was written".to_string());
+        }
+        Ok(())
+    }
+
+    /// Both do a call on the same bytes. Gives the bytes after it.
+    pub fn agree(&mut self, before: &[u8], call: &Call) -> Result<Vec<u8>, String> {
+        let should = outcome(before, call);
+        self.hold(before, call, &should)?;
+        Ok(should.state)
+    }
+
+    /// The core does a call on a state's bytes, with others behind them; the rule has made the state after it.
+    pub fn follow(
+        &mut self,
+        call: &Call,
+        answers: Answers,
+        from: &State,
+        to: &State,
+        behind: &[u8],
+    ) -> Result<(), String> {
+        let with_behind = |state: &State| [stored(state).as_slice(), behind].concat();
+        let should = Outcome { answers, state: with_behind(to), out: Vec::new() };
+        self.hold(&with_behind(from), call, &should)
+    }
+
+    /// Both write an event into the same room.
+    pub fn agree_write(&mut self, kind: u32, first: u16, second: u16, room: usize) -> Result<(), String> {
+        let mut should = blank(room);
+        let answer = Second.write_event(kind, first, second, &mut should);
+        let placement = self.placement();
+        let out = self.out.put(&blank(room), placement);
+        let is: Answer = self.core.write_event(kind, first, second, self.out.lent(&out));
+        let what = format!("write_event {kind} {first} {second} into {room} bytes");
+        if is != answer {
+            return Err(format!("{what}: {is:?}, should be {answer:?}"));
+        }
+        if self.out.lent(&out) != should {
+            return Err(format!("{what}: {}, should be {}", hex(self.out.lent(&out)), hex(&should)));
+        }
+        if self.out.intact(&out) { Ok(()) } else { Err(format!("{what}: a byte outside was written")) }
+    }
+
+    /// Both read at a place of the same bytes. Gives what was read and the place after it.
+    pub fn agree_read(&mut self, bytes: &[u8], place: usize) -> Result<(Read, usize), String> {
+        let (mut should_place, mut is_place) = (place, place);
+        let should = Second.read_event(bytes, &mut should_place);
+        let placement = self.placement();
+        let lent = self.state.put(bytes, placement);
+        let is = self.core.read_event(self.state.lent(&lent), &mut is_place);
+        let wrong = |what: String| Err(format!("read_event at {place}: {what}\n  on {}", hex(bytes)));
+        if (is, is_place) != (should, should_place) {
+            return wrong(format!("{is:?} and place {is_place}, should be {should:?} and {should_place}"));
+        }
+        if self.state.lent(&lent) != bytes || !self.state.intact(&lent) {
+            return wrong("a byte was written".to_string());
+        }
+        Ok((is, is_place))
+    }
+}
+
+/// Bytes in hexadecimal, the first of them where there are many.
+pub fn hex(bytes: &[u8]) -> String {
+    let shown: Vec<String> = bytes.iter().take(400).map(|byte| format!("{byte:02x}")).collect();
+    let more = if bytes.len() > 400 { " .." } else { "" };
+    format!("{} bytes {}{more}", bytes.len(), shown.join(" "))
+}
+
+fn shown(state: &[u8]) -> String {
+    match state.first() {
+        Some(n) => format!("n = {n}, {}", hex(state)),
+        None => "an empty buffer".to_string(),
+    }
+}
+
+fn first_difference(is: &[u8], should: &[u8]) -> Option<usize> {
+    is.iter().zip(should).position(|(a, b)| a != b)
+}
+
+/// What a byte of a stored state is, found by counting through the blocks in their order.
+fn name_of(state: &[u8], at: usize) -> String {
+    let n = usize::from(state[0]);
+    let mut left = at;
+    if !(1..=40).contains(&n) || at >= size(n) {
+        return "after the stored form".to_string();
+    }
+    let blocks = [
+        ("node count", 0),
+        ("link", 2),
+        ("distance", 2),
+        ("downstream", 2),
+        ("view", 3),
+        ("queue length", 2),
+        ("queued destination", 3),
+        ("queued value", 3),
+    ];
+    for (name, sides) in blocks {
+        let many = n.pow(sides);
+        if left < many {
+            let sides: Vec<String> = (0..sides).rev().map(|side| (left / n.pow(side) % n).to_string()).collect();
+            return format!("{name} {}", sides.join(" "));
+        }
+        left -= many;
+    }
+    "after the stored form".to_string()
+}

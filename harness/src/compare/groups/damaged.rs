@@ -1,0 +1,76 @@
+//! Stored states that are not sound, or only look so. Uses the damages and the ground.
+
+use crate::compare::call::Call;
+use crate::compare::damage::{self, DAMAGES};
+use crate::compare::ground::Ground;
+use crate::compare::random::Random;
+use crate::compare::states;
+use crate::second::sound::broken;
+use crate::second::stored::{Blocks, size, stored};
+
+/// The check, and two more calls: each of them judges the state for itself.
+fn judged(ground: &mut Ground, random: &mut Random, buffer: &[u8]) -> Result<(), String> {
+    ground.agree(buffer, &Call::Check)?;
+    let n = usize::from(buffer[0]).max(1);
+    let calls = Call::all(random.below(n), random.below(n));
+    for _ in 0..2 {
+        ground.agree(buffer, random.pick(&calls))?;
+    }
+    Ok(())
+}
+
+pub fn bytes(ground: &mut Ground, random: &mut Random) -> Result<(), String> {
+    let n = random.node_count();
+    let whole = Blocks::of(&states::any(random, n));
+    for _ in 0..(1 + 200 / (n * n)).min(20) {
+        let mut blocks = whole.clone();
+        let count = *random.pick(&[1, 1, 1, 2, 5]);
+        damage::bytes(random, &mut blocks, count);
+        judged(ground, random, &blocks.write())?;
+    }
+    Ok(())
+}
+
+pub fn stretches(ground: &mut Ground, random: &mut Random) -> Result<(), String> {
+    let n = random.node_count();
+    let mut buffer = stored(&states::any(random, n));
+    damage::stretch(random, &mut buffer);
+    judged(ground, random, &buffer)
+}
+
+pub fn random_bytes(ground: &mut Ground, random: &mut Random) -> Result<(), String> {
+    let n = random.node_count();
+    let length = match random.below(3) {
+        0 => random.between(1, 400),
+        1 => size(n),
+        _ => size(n) + random.below(100),
+    };
+    let mut buffer = match random.below(3) {
+        0 => vec![random.byte(); length],
+        1 => (0..length).map(|_| random.below(n + 1) as u8).collect(),
+        _ => random.bytes(length),
+    };
+    if random.chance(80) {
+        buffer[0] = n as u8;
+    }
+    judged(ground, random, &buffer)
+}
+
+pub fn clauses(ground: &mut Ground, random: &mut Random) -> Result<(), String> {
+    let n = random.node_count();
+    let whole = Blocks::of(&states::any(random, n));
+    // All ways to break a small state, some for a large one.
+    let share = if n <= 8 { 100 } else { 15 };
+    for damage in DAMAGES {
+        let mut blocks = whole.clone();
+        if !random.chance(share) {
+            continue;
+        }
+        let Some(clause) = damage(random, &mut blocks) else { continue };
+        if !broken(&blocks).contains(&clause) {
+            return Err(format!("a damage did not break {clause:?}: {blocks:?}"));
+        }
+        judged(ground, random, &blocks.write())?;
+    }
+    Ok(())
+}

@@ -1,0 +1,76 @@
+//! The named groups of cases. Each file holds those of one idea; all use the ground.
+
+mod arguments;
+mod damaged;
+mod fixed;
+mod lengths;
+mod order;
+mod program;
+mod records;
+mod runs;
+mod small;
+
+use super::ground::Ground;
+use super::random::Random;
+
+/// What a group does.
+pub enum Work {
+    /// All of it each time. Gives how many cases there were.
+    Whole(fn(&mut Ground) -> Result<u64, String>),
+    /// One random case at a time, with this share of the time.
+    Cases(fn(&mut Ground, &mut Random) -> Result<(), String>, u32),
+}
+
+/// A named group of cases.
+pub struct Group {
+    pub name: &'static str,
+    pub about: &'static str,
+    pub work: Work,
+}
+
+const fn whole(name: &'static str, about: &'static str, work: fn(&mut Ground) -> Result<u64, String>) -> Group {
+    Group { name, about, work: Work::Whole(work) }
+}
+
+const fn cases(
+    name: &'static str,
+    share: u32,
+    about: &'static str,
+    case: fn(&mut Ground, &mut Random) -> Result<(), String>,
+) -> Group {
+    Group { name, about, work: Work::Cases(case, share) }
+}
+
+pub const GROUPS: &[Group] = &[
+    whole("numbers", "document 01's own numbers", fixed::numbers),
+    whole("sizes", "the size of every node count, and of numbers that are none", fixed::sizes),
+    whole("two-nodes", "every state of two nodes that events reach, every call in it", small::two_nodes),
+    whole("three-nodes", "states of three nodes that a few events reach, every event in it", small::three_nodes),
+    whole(
+        "every-node-count",
+        "for each n from 1 to 40 a state of each sort and every call in it",
+        runs::every_node_count,
+    ),
+    whole("every-byte", "every byte of small states with every value in its place", small::every_byte),
+    whole("every-length", "every length of a buffer for small states, every call", small::every_length),
+    whole("every-pair", "every pair of number classes, every call", arguments::every_pair),
+    whole("kinds", "every event kind and many others, written into rooms of every length", records::kinds),
+    whole("fronts", "every front of a record, cut at every byte", records::fronts),
+    cases("make", 2, "node counts and buffers of every class, any bytes before it", lengths::make),
+    cases("reached", 6, "random events from fresh, each followed", runs::reached),
+    cases("constructed", 6, "sound states that no events reach, every event from them", runs::constructed),
+    cases("questions", 3, "every question about a sound state", runs::questions),
+    cases("status", 2, "status records into rooms of every length", runs::status),
+    cases("to-rest", 4, "passes to rest, with the bounds and the true hop counts", order::to_rest),
+    cases("any-order", 4, "passes whose deliveries come in any order, with the same bounds", order::any_order),
+    cases("arguments", 4, "every call with every class of number", arguments::arguments),
+    cases("lengths", 3, "buffers that are empty, short, exact and long", lengths::lengths),
+    cases("damaged-bytes", 5, "sound states with a few bytes changed", damaged::bytes),
+    cases("damaged-stretches", 3, "sound states with a stretch of bytes changed", damaged::stretches),
+    cases("random-bytes", 2, "buffers of any bytes", damaged::random_bytes),
+    cases("clauses", 5, "each clause of soundness broken on purpose", damaged::clauses),
+    cases("read", 3, "any bytes and damaged records through the reader", records::read),
+    cases("write", 1, "records written and read back", records::write),
+    cases("program", 5, "random scripts through the built program", program::scripts),
+    cases("program-input", 1, "input in pieces, past its limit, and left open", program::input),
+];

@@ -1,0 +1,48 @@
+//! What a core is asked: the calls of include/hop.h on slices, with their answers as they come. Uses nothing.
+//! The answers are whole, so that 'zero in every other answer' of a refusal can be seen.
+
+/// A number, and one answer.
+#[repr(C)]
+#[derive(Clone, Copy, PartialEq, Eq, Debug, Default)]
+pub struct Answer {
+    pub code: u32,
+    pub value: u32,
+}
+
+/// What a run did.
+#[repr(C)]
+#[derive(Clone, Copy, PartialEq, Eq, Debug, Default)]
+pub struct Ran {
+    pub code: u32,
+    pub passes: u32,
+    pub deliveries: u32,
+}
+
+/// An event that was read; kind 0 is the plain end, or a refusal.
+#[repr(C)]
+#[derive(Clone, Copy, PartialEq, Eq, Debug, Default)]
+pub struct Read {
+    pub code: u32,
+    pub kind: u32,
+    pub first: u32,
+    pub second: u32,
+}
+
+/// A core: the one in the archive, or another that is held against the second implementation.
+pub trait Engine {
+    fn size(&self, n: usize) -> usize;
+    fn make(&self, state: &mut [u8], n: usize) -> u32;
+    fn check(&self, state: &[u8]) -> u32;
+    fn up(&self, state: &mut [u8], a: usize, b: usize) -> u32;
+    fn down(&self, state: &mut [u8], a: usize, b: usize) -> u32;
+    fn deliver(&self, state: &mut [u8], from: usize, to: usize) -> u32;
+    fn pass(&self, state: &mut [u8]) -> Answer;
+    fn run(&self, state: &mut [u8], allowance: u8) -> Ran;
+    fn distance(&self, state: &[u8], node: usize, destination: usize) -> Answer;
+    fn downstream(&self, state: &[u8], node: usize, destination: usize) -> Answer;
+    fn queue_length(&self, state: &[u8], from: usize, to: usize) -> Answer;
+    fn total_queued(&self, state: &[u8]) -> Answer;
+    fn status(&self, state: &[u8], node: usize, out: &mut [u8]) -> Answer;
+    fn write_event(&self, kind: u32, first: u16, second: u16, out: &mut [u8]) -> Answer;
+    fn read_event(&self, bytes: &[u8], place: &mut usize) -> Read;
+}

@@ -1,0 +1,9 @@
+//! The comparison of the hop-route core with a second implementation of document 01.
+//! Uses std, and the archive where there is one.
+
+pub mod compare;
+pub mod core;
+pub mod engine;
+pub mod numbers;
+pub mod second;
+pub mod selftest;

@@ -1,0 +1,195 @@
+//! Document 01's own numbers, held against any core. Uses the trait, and the second's reading of stored bytes.
+
+use crate::engine::{Answer, Engine, Ran};
+use crate::second::stored::Blocks;
+
+type Held = Result<(), String>;
+type Check = fn(&dyn Engine) -> Held;
+
+/// The numbers by their names in document 01.
+pub const NUMBERS: &[(&str, Check)] = &[
+    ("P1 fresh n = 1", p1),
+    ("P2 node counts and a short buffer", p2),
+    ("P3 n = 2, up 0 1", p3),
+    ("P4 deliver 0 to 1", p4),
+    ("P5 run from P3", p5),
+    ("P6 down from rest is fresh", p6),
+    ("P7 refusals of up", p7),
+    ("P8 status of node 1", p8),
+    ("P9 line of 3, down 1 2", p9),
+    ("P10 line of 3 with n = 4, down 1 2", p10),
+    ("sizes", sizes),
+    ("the square", square),
+    ("780 links of 40", complete),
+    ("a line of 40", line),
+];
+
+/// Two things that document 01 says are equal.
+pub fn same<T: PartialEq + std::fmt::Debug>(what: &str, is: T, should: T) -> Held {
+    if is == should { Ok(()) } else { Err(format!("{what}: {is:?}, and should be {should:?}")) }
+}
+
+/// A fresh state in a buffer of its own size, with links brought up in order.
+fn with_links(core: &dyn Engine, n: usize, links: &[(usize, usize)]) -> Result<Vec<u8>, String> {
+    let mut state = vec![0; 1 + 4 * n * n + 3 * n * n * n];
+    same("make", core.make(&mut state, n), 0)?;
+    for &(a, b) in links {
+        same(&format!("up {a} {b}"), core.up(&mut state, a, b), 0)?;
+    }
+    Ok(state)
+}
+
+/// A queue's entries, head first.
+fn queue(state: &[u8], from: usize, to: usize) -> Vec<(u8, u8)> {
+    let blocks = Blocks::read(state);
+    let length = usize::from(blocks.lengths[from][to]);
+    let destinations = blocks.destinations[from][to].iter().copied();
+    destinations.zip(blocks.values[from][to].iter().copied()).take(length).collect()
+}
+
+/// The whole tables as they are stored, and a row and a column of them by asking.
+fn tables(core: &dyn Engine, state: &[u8], should: impl Fn(usize, usize) -> (usize, usize)) -> Held {
+    let blocks = Blocks::read(state);
+    for u in 0..40 {
+        for v in 0..40 {
+            let (distance, downstream) = should(u, v);
+            let stored = (blocks.distances[u][v].into(), blocks.downstreams[u][v].into());
+            same(&format!("distance and downstream of {u} to {v}"), stored, (distance, downstream))?;
+            if u == 1 || v == 38 {
+                same("distance", core.distance(state, u, v), answered(distance as u32))?;
+                same("downstream", core.downstream(state, u, v), answered(downstream as u32))?;
+            }
+        }
+    }
+    Ok(())
+}
+
+fn answered(value: u32) -> Answer {
+    Answer { code: 0, value }
+}
+
+fn p1(core: &dyn Engine) -> Held {
+    let mut state = [7; 8];
+    same("make", core.make(&mut state, 1), 0)?;
+    same("bytes", state, [1, 0, 0, 0, 1, 0, 0, 0])
+}
+
+fn p2(core: &dyn Engine) -> Held {
+    let mut state = vec![7; 198_401];
+    same("make 0", core.make(&mut state, 0), 1)?;
+    same("make 41", core.make(&mut state, 41), 1)?;
+    same("make 2 in 40 bytes", core.make(&mut state[..40], 2), 2)?;
+    same("bytes", state.iter().all(|&byte| byte == 7), true)
+}
+
+fn p3(core: &dyn Engine) -> Held {
+    let state = with_links(core, 2, &[(0, 1)])?;
+    same("queue 0 to 1", queue(&state, 0, 1), vec![(0, 0), (1, 2)])?;
+    same("queue 1 to 0", queue(&state, 1, 0), vec![(0, 2), (1, 0)])
+}
+
+fn p4(core: &dyn Engine) -> Held {
+    let mut state = with_links(core, 2, &[(0, 1)])?;
+    same("deliver 0 1", core.deliver(&mut state, 0, 1), 0)?;
+    same("distance of 1 to 0", core.distance(&state, 1, 0), answered(1))?;
+    same("queue 1 to 0", queue(&state, 1, 0), vec![(0, 1), (1, 0)])?;
+    same("waiting", core.total_queued(&state), answered(3))
+}
+
+fn p5(core: &dyn Engine) -> Held {
+    let mut state = with_links(core, 2, &[(0, 1)])?;
+    let before = state.clone();
+    same("allowance 0", core.run(&mut state, 0), Ran { code: 0, passes: 0, deliveries: 0 })?;
+    same("bytes", &state, &before)?;
+    same("allowance 255", core.run(&mut state, 255), Ran { code: 0, passes: 2, deliveries: 5 })
+}
+
+fn p6(core: &dyn Engine) -> Held {
+    let mut state = with_links(core, 2, &[(0, 1)])?;
+    core.run(&mut state, 255);
+    same("down 0 1", core.down(&mut state, 0, 1), 0)?;
+    same("bytes", state, with_links(core, 2, &[])?)
+}
+
+fn p7(core: &dyn Engine) -> Held {
+    let mut state = with_links(core, 2, &[(0, 1)])?;
+    same("up 0 1 again", core.up(&mut state, 0, 1), 6)?;
+    same("up 1 1", core.up(&mut state, 1, 1), 5)?;
+    same("up 2 2", core.up(&mut state, 2, 2), 4)
+}
+
+fn p8(core: &dyn Engine) -> Held {
+    let state = with_links(core, 2, &[(0, 1)])?;
+    let mut out = [0xee; 15];
+    same("status of 1", core.status(&state, 1, &mut out), answered(14))?;
+    same("record", out, [0x0c, 0, 1, 0, 1, 0, 2, 0, 2, 0, 0, 0, 4, 0, 0xee])
+}
+
+fn p9(core: &dyn Engine) -> Held {
+    let mut state = with_links(core, 3, &[(0, 1), (1, 2)])?;
+    core.run(&mut state, 255);
+    same("down 1 2", core.down(&mut state, 1, 2), 0)?;
+    same("waiting", core.total_queued(&state), answered(1))?;
+    let ran = core.run(&mut state, 255);
+    same("deliveries", (ran.code, ran.deliveries), (0, 2))?;
+    same("rest", core.total_queued(&state), answered(0))?;
+    same("distance of 0 to 2", core.distance(&state, 0, 2), answered(3))
+}
+
+fn p10(core: &dyn Engine) -> Held {
+    let mut state = with_links(core, 4, &[(0, 1), (1, 2)])?;
+    core.run(&mut state, 255);
+    same("down 1 2", core.down(&mut state, 1, 2), 0)?;
+    same("distance of 1 to 2", core.distance(&state, 1, 2), answered(3))?;
+    same("downstream of 1 to 2", core.downstream(&state, 1, 2), answered(0))?;
+    same("run", core.run(&mut state, 255), Ran { code: 0, passes: 3, deliveries: 3 })
+}
+
+fn sizes(core: &dyn Engine) -> Held {
+    for (n, size) in [(1, 8), (2, 41), (3, 118), (27, 61_966), (40, 198_401), (0, 0), (41, 0), (usize::MAX, 0)] {
+        same(&format!("size of {n}"), core.size(n), size)?;
+    }
+    Ok(())
+}
+
+fn square(core: &dyn Engine) -> Held {
+    let mut state = with_links(core, 4, &[(0, 1), (0, 2), (1, 3), (2, 3)])?;
+    same("run", core.run(&mut state, 255).code, 0)?;
+    same("distance of 0 to 3", core.distance(&state, 0, 3), answered(2))?;
+    same("downstream of 0 to 3", core.downstream(&state, 0, 3), answered(1))
+}
+
+fn complete(core: &dyn Engine) -> Held {
+    let links: Vec<(usize, usize)> = (0..40).flat_map(|a| (a + 1..40).map(move |b| (a, b))).collect();
+    same("links", links.len(), 780)?;
+    let mut state = with_links(core, 40, &links)?;
+    same("waiting", core.total_queued(&state), answered(62_400))?;
+    for node in 0..40_u8 {
+        let mut out = [0; 14];
+        same("status", core.status(&state, usize::from(node), &mut out), answered(14))?;
+        let (waiting, total) = (1_560_u16.to_le_bytes(), 62_400_u16.to_le_bytes());
+        let [w, x] = waiting;
+        same("record", out, [12, 0, 1, 0, node, 0, w, x, w, x, 0, 0, total[0], total[1]])?;
+    }
+    let ran = core.run(&mut state, 255);
+    same("rest within n passes", (ran.code, ran.passes <= 40), (0, true))?;
+    tables(core, &state, |u, v| (usize::from(u != v), v))
+}
+
+fn line(core: &dyn Engine) -> Held {
+    let links: Vec<(usize, usize)> = (0..39).map(|a| (a, a + 1)).collect();
+    let mut state = with_links(core, 40, &links)?;
+    same("waiting", core.total_queued(&state), answered(39 * 2 * 40))?;
+    let ran = core.run(&mut state, 255);
+    same("rest within n passes", (ran.code, ran.passes <= 40), (0, true))?;
+    tables(core, &state, |u, v| {
+        let next = if v < u {
+            u - 1
+        } else if v > u {
+            u + 1
+        } else {
+            u
+        };
+        (u.abs_diff(v), next)
+    })
+}

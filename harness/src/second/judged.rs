@@ -1,0 +1,76 @@
+//! Events and questions with their refusals, on a state that is known to be sound. Uses the rule.
+
+use super::refusal::Refusal;
+use super::rule::{Entry, MOST_NODES, State};
+
+type Judged<T> = Result<T, Refusal>;
+
+/// A node count that a state can have.
+pub fn node_count(n: usize) -> Judged<usize> {
+    if (1..=MOST_NODES).contains(&n) { Ok(n) } else { Err(Refusal::NodeCount) }
+}
+
+impl State {
+    fn below_n(&self, numbers: &[usize]) -> Judged<()> {
+        if numbers.iter().all(|&number| number < self.n) { Ok(()) } else { Err(Refusal::NoSuchNode) }
+    }
+
+    /// Two nodes that can be the ends of a link.
+    fn ends(&self, a: usize, b: usize) -> Judged<()> {
+        self.below_n(&[a, b])?;
+        if a == b { Err(Refusal::OneNode) } else { Ok(()) }
+    }
+
+    pub fn try_up(&mut self, a: usize, b: usize) -> Judged<()> {
+        self.ends(a, b)?;
+        if self.links[a][b] {
+            return Err(Refusal::IsUp);
+        }
+        self.up(a, b);
+        Ok(())
+    }
+
+    pub fn try_down(&mut self, a: usize, b: usize) -> Judged<()> {
+        self.ends(a, b)?;
+        if !self.links[a][b] {
+            return Err(Refusal::IsDown);
+        }
+        self.down(a, b);
+        Ok(())
+    }
+
+    pub fn try_deliver(&mut self, from: usize, to: usize) -> Judged<()> {
+        self.ends(from, to)?;
+        if !self.links[from][to] {
+            return Err(Refusal::IsDown);
+        }
+        if self.queues[from][to].is_empty() {
+            return Err(Refusal::EmptyQueue);
+        }
+        self.deliver(from, to);
+        Ok(())
+    }
+
+    pub fn try_distance(&self, node: usize, destination: usize) -> Judged<usize> {
+        self.below_n(&[node, destination])?;
+        Ok(self.distances[node][destination])
+    }
+
+    pub fn try_downstream(&self, node: usize, destination: usize) -> Judged<Option<usize>> {
+        self.below_n(&[node, destination])?;
+        Ok(self.downstreams[node][destination])
+    }
+
+    /// A queue's entries, head first: none where the link is down.
+    pub fn try_queue(&self, from: usize, to: usize) -> Judged<Vec<Entry>> {
+        self.ends(from, to)?;
+        Ok(self.queues[from][to].iter().copied().collect())
+    }
+
+    /// What a status record says of a node, in its order.
+    pub fn try_status(&self, node: usize) -> Judged<[usize; 5]> {
+        self.below_n(&[node])?;
+        let (to, from) = (self.waiting_for(node), self.waiting_from(node));
+        Ok([node, to, from, self.reached(node), self.total_queued()])
+    }
+}

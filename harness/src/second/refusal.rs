@@ -1,0 +1,24 @@
+//! Document 01's refusal numbers, by name. Uses nothing.
+
+/// Why a call is refused.
+#[derive(Clone, Copy, PartialEq, Eq, Debug)]
+pub enum Refusal {
+    NodeCount = 1,
+    Short = 2,
+    NotSound = 3,
+    NoSuchNode = 4,
+    OneNode = 5,
+    IsUp = 6,
+    IsDown = 7,
+    EmptyQueue = 8,
+    RecordCut = 9,
+    UnknownKind = 10,
+    WrongLength = 11,
+}
+
+impl Refusal {
+    /// Document 01's number for it.
+    pub fn number(self) -> u32 {
+        self as u32
+    }
+}

@@ -1,0 +1,172 @@
+//! The rule of document 01 on tables and queues. Uses std only; knows nothing of stored bytes.
+
+use std::collections::VecDeque;
+
+/// The largest node count.
+pub const MOST_NODES: usize = 40;
+
+/// An entry that waits in a queue: a destination and the sender's distance to it.
+#[derive(Clone, Copy, PartialEq, Eq, Hash, Debug)]
+pub struct Entry {
+    pub destination: usize,
+    pub value: usize,
+}
+
+/// What recompute gives for one node and destination. No downstream is `None`.
+#[derive(Clone, Copy, PartialEq, Eq, Debug)]
+pub struct Route {
+    pub distance: usize,
+    pub downstream: Option<usize>,
+}
+
+/// The whole machine. Views go by node, neighbour, destination; queues by sender, receiver.
+#[derive(Clone, PartialEq, Eq, Hash, Debug)]
+pub struct State {
+    pub n: usize,
+    pub links: Vec<Vec<bool>>,
+    pub distances: Vec<Vec<usize>>,
+    pub downstreams: Vec<Vec<Option<usize>>>,
+    pub views: Vec<Vec<Vec<usize>>>,
+    pub queues: Vec<Vec<VecDeque<Entry>>>,
+}
+
+/// The route to v at u, from what each up neighbour of u was last heard to say of v.
+/// Neighbours come in ascending order, so that the first of the nearest is the lowest-numbered.
+pub fn route(n: usize, u: usize, v: usize, heard: impl Iterator<Item = (usize, usize)>) -> Route {
+    if v == u {
+        return Route { distance: 0, downstream: Some(u) };
+    }
+    let mut nearest: Option<(usize, usize)> = None;
+    for (w, view) in heard {
+        if nearest.is_none_or(|(_, least)| view < least) {
+            nearest = Some((w, view));
+        }
+    }
+    match nearest {
+        Some((w, least)) if least + 1 < n => Route { distance: least + 1, downstream: Some(w) },
+        _ => Route { distance: n, downstream: None },
+    }
+}
+
+/// Sending: a waiting destination has its value replaced and keeps its place; another joins the tail.
+pub fn send(queue: &mut VecDeque<Entry>, entry: Entry) {
+    match queue.iter_mut().find(|waiting| waiting.destination == entry.destination) {
+        Some(waiting) => waiting.value = entry.value,
+        None => queue.push_back(entry),
+    }
+}
+
+impl State {
+    /// No links; distance n and no downstream, but 0 and itself for a node to itself.
+    pub fn fresh(n: usize) -> State {
+        let mut state = State {
+            n,
+            links: vec![vec![false; n]; n],
+            distances: vec![vec![n; n]; n],
+            downstreams: vec![vec![None; n]; n],
+            views: vec![vec![vec![n; n]; n]; n],
+            queues: vec![vec![VecDeque::new(); n]; n],
+        };
+        for u in 0..n {
+            state.distances[u][u] = 0;
+            state.downstreams[u][u] = Some(u);
+        }
+        state
+    }
+
+    /// The nodes that u has an up link to, ascending.
+    pub fn neighbours(&self, u: usize) -> Vec<usize> {
+        (0..self.n).filter(|&w| self.links[u][w]).collect()
+    }
+
+    /// Recompute of v at u. Only a changed distance is sent, on each up link of u.
+    fn recompute(&mut self, u: usize, v: usize) {
+        let neighbours = self.neighbours(u);
+        let new = route(self.n, u, v, neighbours.iter().map(|&w| (w, self.views[u][w][v])));
+        let changed = new.distance != self.distances[u][v];
+        self.distances[u][v] = new.distance;
+        self.downstreams[u][v] = new.downstream;
+        if changed {
+            for w in neighbours {
+                send(&mut self.queues[u][w], Entry { destination: v, value: new.distance });
+            }
+        }
+    }
+
+    /// Link up. Each end announces everything it has, the unreached too; nothing is recomputed.
+    pub fn up(&mut self, a: usize, b: usize) {
+        for (end, other) in [(a, b), (b, a)] {
+            self.links[end][other] = true;
+            for v in 0..self.n {
+                let value = self.distances[end][v];
+                self.queues[end][other].push_back(Entry { destination: v, value });
+            }
+        }
+    }
+
+    /// Link down. Both ends see it at one moment, so both forget before either recomputes.
+    pub fn down(&mut self, a: usize, b: usize) {
+        for (end, other) in [(a, b), (b, a)] {
+            self.links[end][other] = false;
+            self.queues[end][other].clear();
+            self.views[end][other].fill(self.n);
+        }
+        for end in [a, b] {
+            for v in 0..self.n {
+                self.recompute(end, v);
+            }
+        }
+    }
+
+    /// Delivery of the head entry from one node to another. The queue must hold one.
+    pub fn deliver(&mut self, from: usize, to: usize) {
+        let head = self.queues[from][to].pop_front().expect("a delivery needs an entry");
+        self.views[to][from][head.destination] = head.value;
+        self.recompute(to, head.destination);
+    }
+
+    /// A pass: each queue gives up as many entries as it held when the pass began.
+    pub fn pass(&mut self) -> usize {
+        let held: Vec<Vec<usize>> = self.queues.iter().map(|row| row.iter().map(VecDeque::len).collect()).collect();
+        let mut delivered = 0;
+        for (from, row) in held.iter().enumerate() {
+            for (to, &count) in row.iter().enumerate() {
+                for _ in 0..count {
+                    self.deliver(from, to);
+                    delivered += 1;
+                }
+            }
+        }
+        delivered
+    }
+
+    /// A run: passes until every queue is empty or the allowance is used. Passes, then deliveries.
+    pub fn run(&mut self, allowance: u8) -> (usize, usize) {
+        let (mut passes, mut deliveries) = (0, 0);
+        while passes < usize::from(allowance) && self.total_queued() > 0 {
+            deliveries += self.pass();
+            passes += 1;
+        }
+        (passes, deliveries)
+    }
+
+    /// The total queued.
+    pub fn total_queued(&self) -> usize {
+        self.queues.iter().flatten().map(VecDeque::len).sum()
+    }
+
+    /// Entries waiting to be delivered to a node.
+    pub fn waiting_for(&self, node: usize) -> usize {
+        self.queues.iter().map(|row| row[node].len()).sum()
+    }
+
+    /// Entries that a node has sent and that still wait.
+    pub fn waiting_from(&self, node: usize) -> usize {
+        self.queues[node].iter().map(VecDeque::len).sum()
+    }
+
+    /// How many destinations other than itself a node has a route to.
+    pub fn reached(&self, node: usize) -> usize {
+        (0..self.n).filter(|&v| v != node && self.distances[node][v] < self.n).count()
+    }
+}

@@ -1,0 +1,85 @@
+//! Soundness, clause by clause in document 01's order, on blocks of any bytes. Uses the rule's recompute.
+
+use super::rule::route;
+use super::stored::{Blocks, NONE};
+use std::collections::BTreeSet;
+
+/// What document 01 asks of a sound state, each demand by its own name.
+#[derive(Clone, Copy, PartialEq, Eq, PartialOrd, Ord, Debug)]
+pub enum Clause {
+    LinkIsZeroOrOne,
+    LinksSymmetric,
+    LinkDiagonalZero,
+    DistanceRecomputed,
+    DownstreamRecomputed,
+    ViewAtMostN,
+    DownViewIsN,
+    DownQueueEmpty,
+    LengthAtMostN,
+    DestinationsDiffer,
+    DestinationBelowN,
+    ValueIsDistance,
+    NotWaitingIsHeard,
+    PlacesPastZero,
+}
+
+/// The clauses that do not hold. Up means that the link byte is exactly 1 and the two nodes differ.
+pub fn broken(blocks: &Blocks) -> BTreeSet<Clause> {
+    let n = usize::from(blocks.n);
+    let up = |u: usize, w: usize| u != w && blocks.links[u][w] == 1;
+    let mut broken = BTreeSet::new();
+    let mut demand = |clause: Clause, holds: bool| {
+        if !holds {
+            broken.insert(clause);
+        }
+    };
+    for u in 0..n {
+        demand(Clause::LinkDiagonalZero, blocks.links[u][u] == 0);
+        for w in 0..n {
+            demand(Clause::LinkIsZeroOrOne, blocks.links[u][w] <= 1);
+            demand(Clause::LinksSymmetric, blocks.links[u][w] == blocks.links[w][u]);
+        }
+        for v in 0..n {
+            let heard = (0..n).filter(|&w| up(u, w)).map(|w| (w, usize::from(blocks.views[u][w][v])));
+            let route = route(n, u, v, heard);
+            let downstream = route.downstream.map_or(usize::from(NONE), |w| w);
+            demand(Clause::DistanceRecomputed, usize::from(blocks.distances[u][v]) == route.distance);
+            demand(Clause::DownstreamRecomputed, usize::from(blocks.downstreams[u][v]) == downstream);
+        }
+        for w in 0..n {
+            for &view in &blocks.views[u][w] {
+                demand(Clause::ViewAtMostN, view <= blocks.n);
+                demand(Clause::DownViewIsN, up(u, w) || view == blocks.n);
+            }
+        }
+    }
+    for sender in 0..n {
+        for receiver in 0..n {
+            let length = usize::from(blocks.lengths[sender][receiver]);
+            demand(Clause::LengthAtMostN, length <= n);
+            demand(Clause::DownQueueEmpty, up(sender, receiver) || length == 0);
+            let (waiting, past) = blocks.destinations[sender][receiver].split_at(length.min(n));
+            let (values, values_past) = blocks.values[sender][receiver].split_at(length.min(n));
+            demand(Clause::PlacesPastZero, past.iter().chain(values_past).all(|&byte| byte == 0));
+            if !up(sender, receiver) {
+                continue;
+            }
+            for (place, &v) in waiting.iter().enumerate() {
+                demand(Clause::DestinationsDiffer, !waiting[..place].contains(&v));
+                demand(Clause::DestinationBelowN, v < blocks.n);
+                let distance = blocks.distances[sender].get(usize::from(v));
+                demand(Clause::ValueIsDistance, distance.is_none_or(|&d| values[place] == d));
+            }
+            for v in (0..n).filter(|&v| !waiting.iter().any(|&w| usize::from(w) == v)) {
+                let heard = blocks.views[receiver][sender][v];
+                demand(Clause::NotWaitingIsHeard, heard == blocks.distances[sender][v]);
+            }
+        }
+    }
+    broken
+}
+
+/// Sound: no clause is broken.
+pub fn sound(blocks: &Blocks) -> bool {
+    broken(blocks).is_empty()
+}

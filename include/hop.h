@@ -1,0 +1,243 @@
+/* hop.h: the hop-route core for C and C++. Link libhop_c.a; nothing else is needed.
+ *
+ * The core keeps a small network of n nodes (0 to n-1, n from 1 to 40): links that are up or down, one
+ * queue of announcements in each direction of a link, and for each node and destination a distance in
+ * hops and the downstream neighbour on the way there. Links are brought up and down; entries are
+ * delivered one at a time, in passes, or in runs of passes until no queue holds any. From any sound
+ * state, and without link events, rest comes within n passes, and distances are then true hop counts.
+ *
+ * THE STATE is a buffer of bytes that the caller owns: hop_size(n) bytes at its front, which can be kept
+ * in a file or handed on as they are. Bytes of the buffer after these are never read or written. Every
+ * call on a state first checks all of it, so that a stray write by somebody else is answered with 3 and
+ * never followed.
+ *
+ * ANSWERS. Each call gives one of these numbers. Any other than 0 is a refusal: every other answer is then
+ * 0, and no byte of any buffer has changed.
+ *
+ *    0  done
+ *    1  the node count (asked for, or the state's first byte) is not 1 to 40
+ *    2  a buffer is shorter than needed
+ *    3  the state is not sound
+ *    4  a node or destination number is not below n
+ *    5  both ends are one node
+ *    6  link up asked where it is up
+ *    7  link down or delivery asked where it is down
+ *    8  delivery from an empty queue
+ *    9  a record is cut short
+ *   10  its kind is unknown
+ *   11  its length is not that of its kind
+ *
+ * WHAT IS JUDGED FIRST. Where several refusals apply, a call on a state gives the first of: 2 for an empty
+ * buffer, 1, 2 for a buffer that is shorter than hop_size of its first byte, 3, 4, 5, 6 or 7, 8, and last 2
+ * for an output that is too short. At each call below its refusals stand in this order; 'the state's own'
+ * are 2, 1, 2, 3 as just said.
+ *
+ * POINTERS AND LENGTHS. A length may be anything, 0 too; the pointer must be valid for so many bytes. Nodes,
+ * destinations, node counts and places are full size_t, so that no number is cut down on its way in: 65,537
+ * is refused and not taken for 1. A state and an output must not overlap, nor may a place lie inside the
+ * bytes that are read; the core relies on it and cannot check it.
+ *
+ * No function allocates, blocks, prints, keeps anything between calls, or calls another library. Calls on
+ * different buffers may run at the same time; calls on one buffer that change it may not.
+ *
+ *     #include "hop.h"
+ *
+ *     uint8_t state[41];                                     // hop_size(2)
+ *     hop_make(state, sizeof state, 2);
+ *     hop_up(state, sizeof state, 0, 1);
+ *     hop_ran ran = hop_run(state, sizeof state, 255);       // ran.passes is 2, ran.deliveries is 5
+ *     hop_answer hops = hop_distance(state, sizeof state, 0, 1);         // hops.code is 0, hops.value is 1
+ */
+#ifndef HOP_H
+#define HOP_H
+
+#include <stddef.h>
+#include <stdint.h>
+
+#ifdef __cplusplus
+extern "C" {
+#endif
+
+/* A number, and one answer. The answer is 0 where the number is not. */
+typedef struct {
+    uint32_t code, value;
+} hop_answer;
+
+/* What a run did. Both counts are 0 where the number is not. */
+typedef struct {
+    uint32_t code, passes, deliveries;
+} hop_ran;
+
+/* An event that was read. kind is 0 at the plain end (code 0) and where the record is refused. */
+typedef struct {
+    uint32_t code, kind, first, second;
+} hop_event;
+
+/* ------------------------------------------------------------------ making and checking a state */
+
+/* The bytes that a state of n nodes takes, 1 + 4n^2 + 3n^3; 0 unless n is 1 to 40. Never refuses.
+ *
+ *     hop_size(1) is 8, hop_size(2) is 41, hop_size(27) is 61966, hop_size(40) is 198401, hop_size(41) is 0
+ */
+size_t hop_size(size_t n);
+
+/* Makes a fresh state of n nodes: no links, every queue empty, distance n and downstream 255 (none) but for a
+ * node to itself, 0 and itself. Reads no byte of the buffer, whatever stood there. Writes hop_size(n) bytes.
+ *
+ * Refuses: 1 if n is not 1 to 40; 2 if len is below hop_size(n).
+ *
+ *     uint8_t *state = malloc(hop_size(40));
+ *     if (state) hop_make(state, hop_size(40), 40);          // 0
+ *     hop_make(state, 40, 2);                                // 2: 41 are needed
+ */
+uint32_t hop_make(uint8_t *state, size_t len, size_t n);
+
+/* Says whether the buffer holds a sound state. Changes nothing.
+ *
+ * Refuses: the state's own (2 empty, 1, 2 short, 3 not sound).
+ *
+ *     if (hop_check(state, len) == 3) puts("damaged");
+ */
+uint32_t hop_check(const uint8_t *state, size_t len);
+
+/* ------------------------------------------------------------------ events */
+
+/* Brings the link between a and b up. Each end puts all n destinations, ascending, with its own distances,
+ * into its queue to the other. No distance changes yet. Up a b and up b a are the same.
+ *
+ * Refuses: the state's own; 4; 5; 6 if the link is up.
+ *
+ *     hop_up(state, len, 0, 1);                              // 0
+ *     hop_up(state, len, 1, 0);                              // 6
+ *     hop_up(state, len, 1, 1);                              // 5
+ */
+uint32_t hop_up(uint8_t *state, size_t len, size_t a, size_t b);
+
+/* Takes the link between a and b down, seen by both ends at one moment. Both queues are emptied, both ends
+ * forget what they heard on it and recompute every destination; changed distances are queued on their other
+ * links. Down a b and down b a are the same.
+ *
+ * Refuses: the state's own; 4; 5; 7 if the link is down.
+ *
+ *     hop_down(state, len, 0, 1);                            // 0
+ *     hop_down(state, len, 0, 1);                            // 7
+ */
+uint32_t hop_down(uint8_t *state, size_t len, size_t a, size_t b);
+
+/* Delivers the head entry of the queue from one node to another. The receiver recomputes that destination
+ * and, if its distance to it changed, queues the new one on each of its links.
+ *
+ * Refuses: the state's own; 4; 5; 7 if the link is down; 8 if the queue is empty.
+ *
+ *     while (hop_deliver(state, len, 0, 1) == 0) {}          // until it gives 8
+ */
+uint32_t hop_deliver(uint8_t *state, size_t len, size_t from, size_t to);
+
+/* Makes one pass: queues in ascending order of sender, then receiver, and each gives up as many entries as it
+ * held when the pass began. value: the entries delivered, which is the total queued before it; 0 at rest.
+ *
+ * Refuses: the state's own.
+ *
+ *     hop_answer pass = hop_pass(state, len);                // pass.code is 0, pass.value entries were delivered
+ */
+hop_answer hop_pass(uint8_t *state, size_t len);
+
+/* Makes passes until every queue is empty or as many as the allowance (0 to 255) are made. passes: those made;
+ * deliveries: the entries delivered in them. n passes always bring rest, so that 40 are enough for any state.
+ *
+ * Refuses: the state's own.
+ *
+ *     hop_ran ran = hop_run(state, len, 40);                 // at rest; ran.passes is at most 40
+ *     hop_run(state, len, 0);                                // checks the state and does nothing
+ */
+hop_ran hop_run(uint8_t *state, size_t len, uint8_t allowance);
+
+/* ------------------------------------------------------------------ questions: none changes the state */
+
+/* The distance of a node to a destination in hops. value: 0 for the node itself, n for no route known.
+ *
+ * Refuses: the state's own; 4 (value is then 0, and not n).
+ *
+ *     hop_answer hops = hop_distance(state, len, 0, 3);
+ *     if (hops.code == 0 && hops.value < n) printf("%u hops\n", (unsigned)hops.value);
+ */
+hop_answer hop_distance(const uint8_t *state, size_t len, size_t node, size_t destination);
+
+/* The neighbour that a node sends through to reach a destination: the lowest-numbered of the nearest. value:
+ * the node itself for itself, 255 for none.
+ *
+ * Refuses: the state's own; 4 (value is then 0, and not 255).
+ *
+ *     hop_answer next = hop_downstream(state, len, 0, 3);
+ *     if (next.code == 0 && next.value != 255) forward_to(next.value);
+ */
+hop_answer hop_downstream(const uint8_t *state, size_t len, size_t node, size_t destination);
+
+/* How many entries wait in the queue from one node to another. value: 0 to n; 0 where the link is down.
+ *
+ * Refuses: the state's own; 4; 5.
+ *
+ *     hop_queue_length(state, len, 0, 1).value               // n after hop_up(state, len, 0, 1)
+ */
+hop_answer hop_queue_length(const uint8_t *state, size_t len, size_t from, size_t to);
+
+/* How many entries wait in the whole state. value: 0 at rest; at most n^2 (n-1), 62,400 with 40 nodes.
+ *
+ * Refuses: the state's own.
+ *
+ *     int at_rest = hop_total_queued(state, len).value == 0; // also 0 where the state is refused: see code
+ */
+hop_answer hop_total_queued(const uint8_t *state, size_t len);
+
+/* ------------------------------------------------------------------ records */
+
+/* Writes a node's status record: little-endian 16-bit numbers, the length 12 and the kind 1, then node, entries
+ * waiting for it, entries waiting from it, destinations other than itself with a route, total queued in the
+ * whole state. value: the bytes written, 14. Bytes of the output after these stay as they are. The state is not
+ * changed. out must not overlap state.
+ *
+ * Refuses: the state's own; 4; 2 if out_len is below 14.
+ *
+ *     uint8_t record[14];
+ *     hop_status(state, len, 1, record, sizeof record);      // .code 0, .value 14
+ */
+hop_answer hop_status(const uint8_t *state, size_t len, size_t node, uint8_t *out, size_t out_len);
+
+/* Writes an event record: little-endian 16-bit numbers, the length of what follows it, the kind, the body.
+ *
+ *     kind   event                     body             bytes in all
+ *     15     make                      first: n         6
+ *     16     link up                   first, second    8
+ *     17     link down                 first, second    8
+ *     18     deliver, first to second  first, second    8
+ *     19     pass                      none             4
+ *
+ * Numbers that the kind does not have are not looked at, and the others may be anything: they are judged by the
+ * call that an event is given to. value: the bytes written. Bytes of the output after these stay as they are.
+ *
+ * Refuses: 10 if the kind is none of these; 2 if out_len is too small.
+ *
+ *     uint8_t record[8];
+ *     hop_write_event(16, 0, 1, record, sizeof record);      // .value 8; record is 06 00 10 00 00 00 01 00
+ */
+hop_answer hop_write_event(uint32_t kind, uint16_t first, uint16_t second, uint8_t *out, size_t out_len);
+
+/* Reads the event record at *place of the bytes and moves *place past it. Numbers that the kind does not have
+ * are 0. At the plain end, *place equal to len, code and kind are 0. There and at a refusal *place stays as it
+ * was. place must not be NULL.
+ *
+ * Refuses: 9 if *place is past the end; (plain end); 9 if fewer than 4 bytes are left; 10 if the kind is none
+ * of the five, also for a status record; 11 if the length is not that of the kind; 9 if the body is cut.
+ *
+ *     size_t place = 0;
+ *     hop_event event;
+ *     while ((event = hop_read_event(bytes, len, &place)).kind != 0) apply(event);
+ *     if (event.code != 0) printf("refused with %u at byte %zu\n", (unsigned)event.code, place);
+ */
+hop_event hop_read_event(const uint8_t *bytes, size_t len, size_t *place);
+
+#ifdef __cplusplus
+}
+#endif
+
+#endif

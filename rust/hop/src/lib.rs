@@ -1,0 +1,48 @@
+#![doc = include_str!("../README.md")]
+//!
+//! # The state
+//!
+//! A [`State`] is a view of bytes: a `Vec<u8>` that it owns, or a `&mut [u8]` that it is lent. The bytes can be
+//! kept in a file and taken up again with [`State::over`]. Every call checks all of them first, so that a stray
+//! write by somebody else is answered with [`Refusal::NotSound`] and never followed.
+//!
+//! # Refusals
+//!
+//! A call that cannot be done gives a [`Refusal`] and changes no byte. Where several apply, the first in this order
+//! is given: an empty buffer ([`ShortBuffer`](Refusal::ShortBuffer)), [`NodeCount`](Refusal::NodeCount), a short
+//! buffer, [`NotSound`](Refusal::NotSound), [`NoSuchNode`](Refusal::NoSuchNode), [`OneNode`](Refusal::OneNode),
+//! [`LinkIsUp`](Refusal::LinkIsUp) or [`LinkIsDown`](Refusal::LinkIsDown), [`QueueIsEmpty`](Refusal::QueueIsEmpty),
+//! and last an output that is too short.
+//!
+//! # Coming to rest
+//!
+//! Without link events, n passes bring any sound state to rest: no queue holds an entry, every distance is the true
+//! number of hops (n for no path), and every downstream is the lowest-numbered neighbour one hop nearer.
+
+mod event;
+mod ffi;
+mod refusal;
+mod state;
+mod status;
+
+pub use event::{Event, Reader};
+pub use refusal::Refusal;
+pub use state::{Ran, State};
+pub use status::Status;
+
+/// The largest node count.
+pub const MOST_NODES: usize = 40;
+
+/// The bytes that a state of `n` nodes takes, or nothing where `n` is not 1 to 40.
+///
+/// ```
+/// assert_eq!(hop::size(2), Some(41));
+/// assert_eq!(hop::size(40), Some(198_401));
+/// assert_eq!(hop::size(41), None);
+/// ```
+pub fn size(n: usize) -> Option<usize> {
+    match ffi::size(n) {
+        0 => None,
+        size => Some(size),
+    }
+}

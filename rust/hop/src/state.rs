@@ -1,0 +1,237 @@
+//! The state in a buffer, owned or lent, and the calls on it. Uses the foreign calls.
+
+use crate::event::Event;
+use crate::ffi;
+use crate::refusal::Refusal;
+use crate::status::Status;
+use std::fmt;
+
+/// A state in a buffer: `State<Vec<u8>>` owns its bytes, `State<&mut [u8]>` is lent them, and `State<&[u8]>` can
+/// only be asked.
+///
+/// Bytes of the buffer after the state's own [`size`](crate::size) are never read or written.
+///
+/// ```
+/// use hop::State;
+///
+/// // Owned.
+/// let mut state = State::new(2)?;
+/// state.up(0, 1)?;
+///
+/// // Lent: the same bytes, in a buffer that is longer than needed.
+/// let mut buffer = [0; 64];
+/// buffer[..41].copy_from_slice(state.as_bytes());
+/// let mut lent = State::over(&mut buffer[..]);
+/// assert_eq!(lent.run(255)?.deliveries, 5);
+/// assert_eq!(lent.distance(0, 1)?, 1);
+/// # Ok::<(), hop::Refusal>(())
+/// ```
+#[derive(Clone)]
+pub struct State<B> {
+    bytes: B,
+}
+
+/// What a run did.
+#[derive(Clone, Copy, PartialEq, Eq, Hash, Debug)]
+pub struct Ran {
+    /// The passes made.
+    pub passes: usize,
+    /// The entries delivered in them.
+    pub deliveries: usize,
+}
+
+pub(crate) fn done(code: u32) -> Result<(), Refusal> {
+    match code {
+        0 => Ok(()),
+        code => Err(Refusal::of_number(code).expect("the archive gives the numbers that this crate knows")),
+    }
+}
+
+pub(crate) fn answered(answer: ffi::Answer) -> Result<usize, Refusal> {
+    done(answer.code)?;
+    Ok(answer.value as usize)
+}
+
+impl State<Vec<u8>> {
+    /// A fresh state of `n` nodes in a vector of its exact size: no links, no routes.
+    ///
+    /// Refuses: [`NodeCount`](Refusal::NodeCount).
+    ///
+    /// ```
+    /// use hop::{Refusal, State};
+    ///
+    /// assert_eq!(State::new(1)?.as_bytes(), [1, 0, 0, 0, 1, 0, 0, 0]);
+    /// assert_eq!(State::new(41).unwrap_err(), Refusal::NodeCount);
+    /// # Ok::<(), Refusal>(())
+    /// ```
+    pub fn new(n: usize) -> Result<Self, Refusal> {
+        let mut state = State::over(vec![0; ffi::size(n)]);
+        state.make(n)?;
+        Ok(state)
+    }
+}
+
+impl<B: AsRef<[u8]>> State<B> {
+    /// Takes a buffer as it is. Nothing is judged here: every call judges it, and [`check`](State::check) only does that.
+    pub fn over(bytes: B) -> Self {
+        State { bytes }
+    }
+
+    /// The buffer.
+    pub fn into_inner(self) -> B {
+        self.bytes
+    }
+
+    /// All bytes of the buffer.
+    pub fn as_bytes(&self) -> &[u8] {
+        self.bytes.as_ref()
+    }
+
+    /// Says whether the buffer holds a sound state.
+    ///
+    /// Refuses: [`ShortBuffer`](Refusal::ShortBuffer) if it is empty, [`NodeCount`](Refusal::NodeCount),
+    /// [`ShortBuffer`](Refusal::ShortBuffer), [`NotSound`](Refusal::NotSound). Every other call gives these too.
+    ///
+    /// ```
+    /// use hop::{Refusal, State};
+    ///
+    /// let mut bytes = State::new(3)?.into_inner();
+    /// bytes[1] = 1;
+    /// assert_eq!(State::over(bytes).check(), Err(Refusal::NotSound));
+    /// # Ok::<(), Refusal>(())
+    /// ```
+    pub fn check(&self) -> Result<(), Refusal> {
+        done(ffi::check(self.as_bytes()))
+    }
+
+    /// The hops from a node to a destination: 0 for itself, n where no route is known.
+    ///
+    /// Refuses: [`NoSuchNode`](Refusal::NoSuchNode).
+    pub fn distance(&self, node: usize, destination: usize) -> Result<usize, Refusal> {
+        answered(ffi::distance(self.as_bytes(), node, destination))
+    }
+
+    /// The neighbour that a node sends through to reach a destination: itself for itself, nothing without a route.
+    ///
+    /// Refuses: [`NoSuchNode`](Refusal::NoSuchNode).
+    pub fn downstream(&self, node: usize, destination: usize) -> Result<Option<usize>, Refusal> {
+        let downstream = answered(ffi::downstream(self.as_bytes(), node, destination))?;
+        Ok((downstream != 255).then_some(downstream))
+    }
+
+    /// How many entries wait in the queue from one node to another; 0 where the link is down.
+    ///
+    /// Refuses: [`NoSuchNode`](Refusal::NoSuchNode), [`OneNode`](Refusal::OneNode).
+    pub fn queue_length(&self, from: usize, to: usize) -> Result<usize, Refusal> {
+        answered(ffi::queue_length(self.as_bytes(), from, to))
+    }
+
+    /// How many entries wait in the whole state; 0 at rest.
+    pub fn total_queued(&self) -> Result<usize, Refusal> {
+        answered(ffi::total_queued(self.as_bytes()))
+    }
+
+    /// A node's status.
+    ///
+    /// Refuses: [`NoSuchNode`](Refusal::NoSuchNode).
+    ///
+    /// ```
+    /// let mut state = hop::State::new(2)?;
+    /// state.up(0, 1)?;
+    /// let status = state.status(1)?;
+    /// assert_eq!((status.waiting_for, status.waiting_from, status.total_queued), (2, 2, 4));
+    /// # Ok::<(), hop::Refusal>(())
+    /// ```
+    pub fn status(&self, node: usize) -> Result<Status, Refusal> {
+        let mut record = [0; Status::LENGTH];
+        self.write_status(node, &mut record)?;
+        Ok(Status::of_record(&record))
+    }
+
+    /// Writes a node's status record to the front of an output, and gives the bytes written, 14.
+    ///
+    /// Refuses: [`NoSuchNode`](Refusal::NoSuchNode), then [`ShortBuffer`](Refusal::ShortBuffer) for the output.
+    pub fn write_status(&self, node: usize, out: &mut [u8]) -> Result<usize, Refusal> {
+        answered(ffi::status(self.as_bytes(), node, out))
+    }
+}
+
+impl<B: AsRef<[u8]> + AsMut<[u8]>> State<B> {
+    /// Makes a fresh state of `n` nodes in the buffer, whatever stands there.
+    ///
+    /// Refuses: [`NodeCount`](Refusal::NodeCount), [`ShortBuffer`](Refusal::ShortBuffer).
+    ///
+    /// ```
+    /// use hop::{Refusal, State};
+    ///
+    /// let mut buffer = [0xff; 41];
+    /// let mut state = State::over(&mut buffer[..]);
+    /// state.make(2)?;
+    /// assert_eq!(state.make(3), Err(Refusal::ShortBuffer));
+    /// assert_eq!(state.check(), Ok(()));
+    /// # Ok::<(), Refusal>(())
+    /// ```
+    pub fn make(&mut self, n: usize) -> Result<(), Refusal> {
+        done(ffi::make(self.bytes.as_mut(), n))
+    }
+
+    /// Brings a link up: each end queues all its distances for the other.
+    ///
+    /// Refuses: [`NoSuchNode`](Refusal::NoSuchNode), [`OneNode`](Refusal::OneNode), [`LinkIsUp`](Refusal::LinkIsUp).
+    pub fn up(&mut self, a: usize, b: usize) -> Result<(), Refusal> {
+        done(ffi::up(self.bytes.as_mut(), a, b))
+    }
+
+    /// Takes a link down: its queues are emptied, and both ends recompute what they heard on it.
+    ///
+    /// Refuses: [`NoSuchNode`](Refusal::NoSuchNode), [`OneNode`](Refusal::OneNode), [`LinkIsDown`](Refusal::LinkIsDown).
+    pub fn down(&mut self, a: usize, b: usize) -> Result<(), Refusal> {
+        done(ffi::down(self.bytes.as_mut(), a, b))
+    }
+
+    /// Delivers the head entry of the queue from one node to another.
+    ///
+    /// Refuses: [`NoSuchNode`](Refusal::NoSuchNode), [`OneNode`](Refusal::OneNode), [`LinkIsDown`](Refusal::LinkIsDown),
+    /// [`QueueIsEmpty`](Refusal::QueueIsEmpty).
+    pub fn deliver(&mut self, from: usize, to: usize) -> Result<(), Refusal> {
+        done(ffi::deliver(self.bytes.as_mut(), from, to))
+    }
+
+    /// Makes one pass: every queue gives up as many entries as it held when the pass began. Gives their number.
+    pub fn pass(&mut self) -> Result<usize, Refusal> {
+        answered(ffi::pass(self.bytes.as_mut()))
+    }
+
+    /// Makes passes until every queue is empty or as many as the allowance are made.
+    ///
+    /// ```
+    /// let mut state = hop::State::new(2)?;
+    /// state.up(0, 1)?;
+    /// assert_eq!(state.run(255)?, hop::Ran { passes: 2, deliveries: 5 });
+    /// assert_eq!(state.total_queued()?, 0);
+    /// # Ok::<(), hop::Refusal>(())
+    /// ```
+    pub fn run(&mut self, allowance: u8) -> Result<Ran, Refusal> {
+        let ran = ffi::run(self.bytes.as_mut(), allowance);
+        done(ran.code)?;
+        Ok(Ran { passes: ran.passes as usize, deliveries: ran.deliveries as usize })
+    }
+
+    /// Does an event, as the call of its name does.
+    pub fn apply(&mut self, event: Event) -> Result<(), Refusal> {
+        match event {
+            Event::Make { n } => self.make(n.into()),
+            Event::Up { a, b } => self.up(a.into(), b.into()),
+            Event::Down { a, b } => self.down(a.into(), b.into()),
+            Event::Deliver { from, to } => self.deliver(from.into(), to.into()),
+            Event::Pass => self.pass().map(|_| ()),
+        }
+    }
+}
+
+impl<B: AsRef<[u8]>> fmt::Debug for State<B> {
+    fn fmt(&self, out: &mut fmt::Formatter<'_>) -> fmt::Result {
+        let bytes = self.as_bytes();
+        out.debug_struct("State").field("n", &bytes.first()).field("bytes", &bytes.len()).finish()
+    }
+}
