@@ -1,8 +1,8 @@
 -- What the public calls answer, as the numbers that are printed. Assumes nothing.
 use mathlib.Core.Path.{_≡_, refl}
 use mathlib.Core.List.{List, []}
-use Prim.Native.Nat.{ℕ, suc}
-use lib.ListN.{length, take}
+use Prim.Native.Nat.{ℕ}
+use lib.ListN.{take}
 use Rattle.hop_rule.specs.declared.Event.{Event}
 use Rattle.hop_rule.specs.Calls.{Call, make, Outcome, outcome}
 use Rattle.hop_core.specs.declared.PassAnswer.{PassAnswer}
@@ -10,7 +10,7 @@ use Rattle.hop_core.specs.declared.PassAnswer.the-variants.{Delivered, Refused}
 use Rattle.hop_core.specs.Answers.{passed}
 use Rattle.hop_rule.specs.Records.{kindOf}
 use Rattle.hop_text.specs.Text.{eventLine}
-use Rattle.hop_replay.specs.Replay.{callOf, queued, appliedLine, events, played}
+use Rattle.hop_replay.specs.Replay.{callOf, queued, appliedLine, eventsOf, played}
 
 -- An event is applied by its call.
 pub applied : (e : Event) (s : List ℕ) {c : Call} {o : Outcome} → callOf e ≡ c → o ≡ outcome c s [] → (o .number ≡ outcome (callOf e) s [] .number) × (o .bytes ≡ outcome (callOf e) s [] .bytes)
@@ -36,6 +36,6 @@ applied-line ordinal e s h k w = rw (k, w, h .0, h .1)
 
 -- The events that are played, from the part of the script that is read and the bytes that making the state left.
 pub played-is : (script buffer : List ℕ) {input s : List ℕ} → input ≡ take 16384 script → s ≡ outcome (make 1) buffer [] .bytes
-    → events (suc (length input)) input 0 1 s ≡ played script buffer
+    → eventsOf input s ≡ played script buffer
 unfolding played
 played-is script buffer h k = rw (h, k)

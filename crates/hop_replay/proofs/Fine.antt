@@ -1,12 +1,13 @@
 -- Every state of the program is fine: what an event leaves of a fine buffer is fine. So refusal 3 is never printed, and in a buffer of 8 bytes or more the total and the routes that are printed are the rule's. Assumes nothing.
-use mathlib.Core.Path.{_≡_, refl, ap, _∙_}
+use mathlib.Core.Path.{_≡_, refl, sym, ap, _∙_}
 use mathlib.Core.Logic.{_≢_}
 use mathlib.Core.List.{List, [], _∷_, _++_}
-use Prim.Native.Nat.{ℕ, zero, suc, _+_, _≤_, _<_}
+use Prim.Native.Nat.{ℕ, zero, suc, _+_, _*_, _≤_, _<_}
+use native.Mathlib.Nat.{mul-le-mul}
 use native.Mathlib.Decide.{ℕ-discrete}
 use native.Mathlib.Omega.{arith}
 use lib.ListN.{length, drop, length-append}
-use borrow.Author.Tests.{eqb-false, leb-false, le-ltb, ne-eqb}
+use borrow.Author.Tests.{eqb-false, leb-false, ltb-false, le-ltb, ne-eqb}
 use Rattle.hop_rule.specs.declared.Event.{Event}
 use Rattle.hop_rule.specs.declared.Event.the-variants.{Make, Up, Down, Deliver, Pass}
 use Rattle.hop_rule.specs.declared.Reading.{Reading}
@@ -17,7 +18,7 @@ use Rattle.hop_rule.specs.Rule.{fresh, linkUp, linkDown, cut, total}
 use Rattle.hop_rule.specs.Stored.{size, stored, nodes, read}
 use Rattle.hop_rule.specs.Sound.{Sound}
 use Rattle.hop_rule.specs.Records.{readEvent}
-use Rattle.hop_rule.specs.Calls.{Call, make, check, up, down, deliver, pass, totalQueued, Refusal, Outcome, badCount, noNode, oneNode, isUp, isDown, nothingWaits, onState, judge, refusals, done, outcome}
+use Rattle.hop_rule.specs.Calls.{Call, make, check, up, down, deliver, pass, totalQueued, Refusal, Outcome, badCount, short, noNode, oneNode, isUp, isDown, nothingWaits, onState, judge, refusals, done, outcome}
 use Rattle.hop_laws.specs.Fine.{Fine}
 use Rattle.hop_laws.proofs.Stored.{length-stored, stored-holds}
 use Rattle.hop_laws.proofs.Sound.{sound-bytes-tells}
@@ -28,7 +29,7 @@ use Rattle.hop_rest.proofs.Frame.{deliver-n}
 use Rattle.hop_rest.proofs.Mended.{recompute-all-n}
 use Rattle.hop_rest.proofs.Kept.{deliver-keeps-sound, down-keeps-sound, up-keeps-sound, pass-keeps-sound}
 use Rattle.hop_replay.specs.Replay.{callOf, queued, events, routeLines, routes, played}
-use Rattle.hop_replay.proofs.Checked.{outcome-number, routes-some}
+use Rattle.hop_replay.proofs.Checked.{outcome-number, checked-fine, routes-some, routes-none}
 use Rattle.hop_replay.proofs.Left.{events-found, events-end, events-refused}
 
 -- ---- one event
@@ -132,3 +133,34 @@ module _ (s : List ℕ) (fine : Fine s) where
   pub routes-lines : routes s ≡ routeLines (read s)
   unfolding refusals
   routes-lines = routes-some s (outcome-number check s [] ∙ fine-judged)
+
+-- ---- a buffer that is too short
+
+size-least : (n : ℕ) → 1 ≤ n → 8 ≤ size n
+unfolding size
+size-least n l =
+    let square : 1 ≤ n * n = mul-le-mul l l in
+    let cube : 1 ≤ n * n * n = mul-le-mul square l in
+    omega arith
+
+module _ (s : List ℕ) (few : length s < 8) where
+  not-fine : Fine s → ⊥
+  not-fine fine = omega (arith, fine .room, size-least (nodes s) (fine .least))
+
+  -- Every event is refused, and there are no routes to print.
+  pub short-refused : (e : Event) → outcome (callOf e) s [] .number ≢ 0
+  unfolding callOf refusals
+  short-refused e z = go e (sym (outcome-number (callOf e) s []) ∙ z)
+    where
+      go : (e : Event) → judge (refusals (callOf e) s []) ≡ 0 → ⊥
+      go (Make n) j =
+          let (count, j₁) = judge-none (badCount n) _ (omega arith) j in
+          let (room, last) = judge-none (short s (size n)) [] (omega arith) j₁ in
+          omega (arith, ltb-false (length s) (size n) room, size-least n (good-count n count .0))
+      go (Up a b) j = not-fine (state-fine s _ j .0)
+      go (Down a b) j = not-fine (state-fine s _ j .0)
+      go (Deliver w u) j = not-fine (state-fine s _ j .0)
+      go Pass j = not-fine (state-fine s _ j .0)
+
+  pub short-routes : routes s ≡ []
+  short-routes = routes-none s (λ z. not-fine (checked-fine s z))

@@ -19,7 +19,7 @@ use Rattle.hop_laws.proofs.Records.{found-place}
 use Rattle.hop_text.specs.Text.{eventLine}
 use Rattle.hop_text.specs.Writing.{Ends, Wrote}
 use Rattle.hop_text.proofs.Writing.{sets-append, wrote-nothing, ends-first}
-use Rattle.hop_replay.specs.Replay.{Replayed, callOf, queued, appliedLine, events}
+use Rattle.hop_replay.specs.Replay.{Replayed, callOf, queued, appliedLine, events, eventsOf}
 
 -- What is neither found (0) nor refused (2) is the end (1): the code learns each as a tag.
 pub only-end : (r : Reading) → OneOf (1 ∷ 2 ∷ []) (tagOf the-type r) → OneOf (0 ∷ 1 ∷ []) (tagOf the-type r) → r ≡ End
@@ -91,7 +91,7 @@ pub record Midway (script s₀ before : List ℕ) (from : ℕ) (s here : List �
   pub within : p ≤ length script
   pub counted : ordinal ≤ p + 1
   pub same-state : length s ≡ length s₀
-  pub left : Left (events (suc (length script)) script 0 1 s₀) before from (events (suc more) script p ordinal s) here at
+  pub left : Left (eventsOf script s₀) before from (events (suc more) script p ordinal s) here at
 
 pub midway-start : (script s l : List ℕ) (p : ℕ) → Midway script s l p s l p 0 1
 midway-start script s l p = record {
@@ -109,7 +109,7 @@ module _ {script s₀ before : List ℕ} {from : ℕ} {s here : List ℕ} {at p 
 
   -- A record that is found: its line has an end, and behind it the loop stands at the next place.
   module _ {e : Event} {q : ℕ} (found : readEvent script p ≡ Found e q) where
-    pub found-ends : Ends (events (suc (length script)) script 0 1 s₀ .text) from → Ends (appliedLine ordinal e s) at
+    pub found-ends : Ends (eventsOf script s₀ .text) from → Ends (appliedLine ordinal e s) at
     found-ends ends = ends-first _ (rw (events-found (m .more) script p ordinal s found) at (left-ends ends (m .left)))
 
     pub found-next : {t there : List ℕ} {next : ℕ} → Wrote (appliedLine ordinal e s) here at there next → t ≡ outcome (callOf e) s [] .bytes → length t ≡ length s
@@ -127,14 +127,14 @@ module _ {script s₀ before : List ℕ} {from : ℕ} {s here : List ℕ} {at p 
         }
 
   -- The plain end: nothing is left.
-  pub end-done : readEvent script p ≡ End → Wrote (events (suc (length script)) script 0 1 s₀ .text) before from here at × (s ≡ events (suc (length script)) script 0 1 s₀ .bytes)
+  pub end-done : readEvent script p ≡ End → Wrote (eventsOf script s₀ .text) before from here at × (s ≡ eventsOf script s₀ .bytes)
   end-done h = left-done (m .left) (events-end (m .more) script p ordinal s h) (wrote-nothing here at)
 
   -- A record that is refused: one line is left.
   module _ {c : ℕ} (refused : readEvent script p ≡ Refused c) where
-    pub refused-ends : Ends (events (suc (length script)) script 0 1 s₀ .text) from → Ends (eventLine ordinal 0 c (queued s)) at
+    pub refused-ends : Ends (eventsOf script s₀ .text) from → Ends (eventLine ordinal 0 c (queued s)) at
     refused-ends ends = rw (events-refused (m .more) script p ordinal s refused) at (left-ends ends (m .left))
 
     pub refused-done : {there : List ℕ} {next : ℕ} → Wrote (eventLine ordinal 0 c (queued s)) here at there next
-        → Wrote (events (suc (length script)) script 0 1 s₀ .text) before from there next × (s ≡ events (suc (length script)) script 0 1 s₀ .bytes)
+        → Wrote (eventsOf script s₀ .text) before from there next × (s ≡ eventsOf script s₀ .bytes)
     refused-done w = left-done (m .left) (events-refused (m .more) script p ordinal s refused) w

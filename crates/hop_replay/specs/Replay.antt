@@ -60,10 +60,14 @@ routeLines s = joined (s .n) (routesFrom s)
 unfoldable pub routes : List ℕ → List ℕ
 routes s = if eqb (outcome check s [] .number) 0 then routeLines (read s) else []
 
--- The events of a script, over a fresh state of n = 1 in a lent buffer; at most the first 16,384 bytes of the script are read. As many records as bytes are enough.
--- A buffer that is too short for n = 1 is refused with 2, and so is every event then, by the calls' own rules.
+-- A whole script, over the bytes s: as many records as bytes are enough.
+abbrev pub eventsOf : List ℕ → List ℕ → Replayed
+eventsOf script s = events (suc (length script)) script 0 1 s
+
+-- The events, over a fresh state of n = 1 in a lent buffer; at most the first 16,384 bytes of the script are read.
+-- In a buffer that is too short for n = 1 making it is refused, and so is every event then, by the calls' own rules.
 unfoldable pub played : List ℕ → List ℕ → Replayed
-played script buffer = let input = take 16384 script in events (suc (length input)) input 0 1 (outcome (make 1) buffer [] .bytes)
+played script buffer = eventsOf (take 16384 script) (outcome (make 1) buffer [] .bytes)
 
 unfoldable pub replayed : List ℕ → List ℕ → Replayed
 replayed script buffer = let r = played script buffer in record { text = header ++ (r .text ++ routes (r .bytes)); bytes = r .bytes }

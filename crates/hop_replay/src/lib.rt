@@ -14,8 +14,8 @@ use hop_text::put_header;
 use hop_text::put_route;
 ghost use mathlib.Core.Path.{_≡_};
 ghost use mathlib.Core.List.{[]};
-ghost use Prim.Native.Nat.{suc, _≤_, _<_};
-ghost use lib.ListN.{length, take};
+ghost use Prim.Native.Nat.{_≤_, _<_};
+ghost use lib.ListN.{take};
 ghost use Rattle.hop_rule.specs.Stored.{nodes, read};
 ghost use Rattle.hop_rule.specs.Records.{kindOf};
 ghost use Rattle.hop_rule.specs.Calls.{outcome};
@@ -23,7 +23,7 @@ ghost use Rattle.hop_cells.specs.Cells.{Room};
 ghost use Rattle.hop_core.specs.Answers.{passed};
 ghost use Rattle.hop_text.specs.Writing.{Ends, Wrote};
 ghost use Rattle.hop_replay.specs.Replay as replay;
-ghost use Rattle.hop_replay.specs.Replay.{callOf, appliedLine, events, routesFrom, routeLines, routes, replayed};
+ghost use Rattle.hop_replay.specs.Replay.{callOf, appliedLine, eventsOf, routesFrom, routeLines, routes, replayed};
 
 fn kind_of(e: Event) -> usize
     ensures { λ r. ⌜ r ≡ kindOf e ⌝ }
@@ -80,9 +80,9 @@ fn put_applied(state: &mut [u8], out: &mut [u8], at: usize, ordinal: usize, e: E
 
 // The records one after another: a refused event is printed and the next is applied, a refused record is printed and ends the reading.
 fn put_events(script: &[u8], state: &mut [u8], out: &mut [u8], at: usize) -> usize
-    requires { ⌜ Ends (events (suc (length (now script))) (now script) 0 1 (now state) .text) at ⌝ }
-    ensures { λ r. ⌜ Wrote (events (suc (length (now (script .entry)))) (now (script .entry)) 0 1 (now (state .entry)) .text) (now (out .entry)) at (now (out .exit)) r
-        × (now (state .exit) ≡ events (suc (length (now (script .entry)))) (now (script .entry)) 0 1 (now (state .entry)) .bytes) ⌝ }
+    requires { ⌜ Ends (eventsOf (now script) (now state) .text) at ⌝ }
+    ensures { λ r. ⌜ Wrote (eventsOf (now (script .entry)) (now (state .entry)) .text) (now (out .entry)) at (now (out .exit)) r
+        × (now (state .exit) ≡ eventsOf (now (script .entry)) (now (state .entry)) .bytes) ⌝ }
 {
     let mut next = at;
     let mut place = 0;
