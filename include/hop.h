@@ -1,4 +1,4 @@
-/* hop.h: the hop-route core for C and C++. Link libhop_c.a; nothing else is needed.
+/* hop.h: the hop-route core for C and C++. Link libhop_c.a; it needs memcpy and memset from the C library and nothing else.
  *
  * The core keeps a small network of n nodes (0 to n-1, n from 1 to 40): links that are up or down, one
  * queue of announcements in each direction of a link, and for each node and destination a distance in
