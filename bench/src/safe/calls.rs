@@ -79,7 +79,25 @@ fn status(state: &[u8], node: usize, out: &mut [u8]) -> Judged<u32> {
     Ok(14)
 }
 
-fn read(bytes: &[u8], place: &mut usize) -> Judged<Read> {
+// A record takes a few nanoseconds, and a call of the archive cannot be inlined: so the two for records are not either.
+#[inline(never)]
+fn write(kind: u32, first: u16, second: u16, out: &mut [u8]) -> Answer {
+    one(body(kind).and_then(|numbers| {
+        let out = out.get_mut(..4 + 2 * numbers).ok_or(2_u32)?;
+        let record = [2 + 2 * numbers as u16, kind as u16, first, second];
+        for (place, number) in out.chunks_exact_mut(2).zip(record) {
+            place.copy_from_slice(&number.to_le_bytes());
+        }
+        Ok(4 + 2 * numbers as u32)
+    }))
+}
+
+#[inline(never)]
+fn read(bytes: &[u8], place: &mut usize) -> Read {
+    found(bytes, place).unwrap_or_else(|code| Read { code, ..Read::default() })
+}
+
+fn found(bytes: &[u8], place: &mut usize) -> Judged<Read> {
     let left = bytes.get(*place..).ok_or(9_u32)?;
     if left.is_empty() {
         return Ok(Read::default());
@@ -188,17 +206,10 @@ impl Engine for Safe {
     }
 
     fn write_event(&self, kind: u32, first: u16, second: u16, out: &mut [u8]) -> Answer {
-        one(body(kind).and_then(|numbers| {
-            let out = out.get_mut(..4 + 2 * numbers).ok_or(2_u32)?;
-            let record = [2 + 2 * numbers as u16, kind as u16, first, second];
-            for (place, number) in out.chunks_exact_mut(2).zip(record) {
-                place.copy_from_slice(&number.to_le_bytes());
-            }
-            Ok(4 + 2 * numbers as u32)
-        }))
+        write(kind, first, second, out)
     }
 
     fn read_event(&self, bytes: &[u8], place: &mut usize) -> Read {
-        read(bytes, place).unwrap_or_else(|code| Read { code, ..Read::default() })
+        read(bytes, place)
     }
 }

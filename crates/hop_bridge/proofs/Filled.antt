@@ -35,7 +35,7 @@ table-rank Lengths = refl
 table-rank Destinations = refl
 table-rank Values = refl
 
-tells-table : (j k : Table) → Tells (same j k) (j ≡ k)
+pub tells-table : (j k : Table) → Tells (same j k) (j ≡ k)
 tells-table j k = tells-as (λ e. sym (table-rank j) ∙ ap tableAt e ∙ table-rank k) (ap rank) (tells-eq (rank j) (rank k))
 
 other-table : (j k : Table) → (j ≡ k → ⊥) → (b : Bool) (x y : ℕ) → cond (same j k && b) x y ≡ y
@@ -74,10 +74,10 @@ start-past n Lengths = omega arith
 start-past n Destinations = omega arith
 start-past n Values = omega arith
 
-flat-in : {n a b : ℕ} (k : Table) → Flat k → a < n → b < n → a * n + b < cells n k
+pub flat-in : {n a b : ℕ} (k : Table) → Flat k → a < n → b < n → a * n + b < cells n k
 flat-in {n} {a} {b} k f la lb = by-flat (λ k. a * n + b < cells n k) (cell2-lt la lb) (cell2-lt la lb) (cell2-lt la lb) (cell2-lt la lb) k f
 
-deep-in : {n a b c : ℕ} (k : Table) → Deep k → a < n → b < n → c < n → (a * n + b) * n + c < cells n k
+pub deep-in : {n a b c : ℕ} (k : Table) → Deep k → a < n → b < n → c < n → (a * n + b) * n + c < cells n k
 deep-in {n} {a} {b} {c} k f la lb lc = by-deep (λ k. (a * n + b) * n + c < cells n k) (cell3-lt la lb lc) (cell3-lt la lb lc) (cell3-lt la lb lc) k f
 
 -- ---- one byte
@@ -127,7 +127,7 @@ module _ {n : ℕ} {r s : List ℕ} {F : Flats} {D : Deeps} where
   }
 
   -- A write in a block.
-  written : Filled n r s F D → (k : Table) (p x : ℕ) → p < cells n k
+  pub written : Filled n r s F D → (k : Table) (p x : ℕ) → p < cells n k
       → (F′ : Flats) (D′ : Deeps)
       → ((j : Table) → Flat j → (a b : ℕ) → a < n → b < n → cond (same j k && eqb (a * n + b) p) x (F j a b) ≡ F′ j a b)
       → ((j : Table) → Deep j → (a b c : ℕ) → a < n → b < n → c < n → cond (same j k && eqb ((a * n + b) * n + c) p) x (D j a b c) ≡ D′ j a b c)

@@ -26,7 +26,7 @@ loop-reaches P zero f a p h = p
 loop-reaches P (suc m) f a p h = h m (loop m f a) (le-refl _) (loop-reaches P m f a p (λ i x l. h i x (omega arith)))
 
 -- One more number is below.
-pub ltb-more : (a k : ℕ) → (ltb a k || eqb a k) ≡ ltb a (suc k)
+ltb-more : (a k : ℕ) → (ltb a k || eqb a k) ≡ ltb a (suc k)
 ltb-more a k = tells-same (tells-or (tells-lt a k) (tells-eq a k)) (tells-as apart joined (tells-lt a (suc k)))
   where
     apart : a < suc k → (a < k) ⊎ (a ≡ k)

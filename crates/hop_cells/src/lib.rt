@@ -13,14 +13,15 @@ pub fn wide(x: u8) -> usize
     x as usize
 }
 
-fn square(n: usize) -> usize
+// The bytes of a block of n², and of one of n³.
+pub fn square(n: usize) -> usize
     requires { ⌜ n ≤ 40 ⌝ }
     ensures { λ r. ⌜ (r ≡ n * n) × (r ≤ 1600) ⌝ }
 {
     n * n
 }
 
-fn cube(n: usize) -> usize
+pub fn cube(n: usize) -> usize
     requires { ⌜ n ≤ 40 ⌝ }
     ensures { λ r. ⌜ (r ≡ n * n * n) × (r ≤ 64000) ⌝ }
 {
@@ -77,7 +78,7 @@ pub fn get(s: &[u8], n: usize, t: Table, i: usize) -> u8
     s[at]
 }
 
-fn put(s: &mut [u8], n: usize, t: Table, i: usize, x: u8)
+pub fn put(s: &mut [u8], n: usize, t: Table, i: usize, x: u8)
     requires { ⌜ Room n (now s) × (i < cells n t) ⌝ }
     ensures { λ r. ⌜ now (s .exit) ≡ cell.put n t i x (now (s .entry)) ⌝ }
 {

@@ -1,5 +1,5 @@
 -- What each test of the check tells, as facts about the bytes of a state. Assumes nothing.
-use mathlib.Core.Path.{_≡_, refl, ap, _∙_}
+use mathlib.Core.Path.{_≡_, refl, sym, ap, subst, _∙_}
 use mathlib.Core.Logic.{_⊎_, inl, inr, _≢_}
 use mathlib.Core.Bool.{Bool, true, false, cond, _&&_}
 use mathlib.Core.List.{List}
@@ -13,17 +13,22 @@ use lib.ListN.{getD}
 use Rattle.hop_rule.specs.declared.Table.{Table}
 use Rattle.hop_rule.specs.declared.Table.the-variants.{Links, Distances, Downstreams, Views, Lengths, Destinations, Values}
 use Rattle.hop_rule.specs.Stored.{nodes, flat, deep, read}
-use Rattle.hop_laws.proofs.Tests.{Tells, tells-as, tells-not-so, tells-eq, tells-le, tells-lt, tells-not, tells-and, tells-or, tells-every}
+use Rattle.hop_laws.proofs.Tests.{Tells, true-not-false, tells-as, tells-not-so, tells-eq, tells-le, tells-lt, tells-not, tells-and, tells-or, tells-every}
 use Rattle.hop_cells.specs.Cells.{get}
-use Rattle.hop_sound.specs.Rows.{allAre}
-use Rattle.hop_sound.specs.Check.{row, linkSound, downSound, idleSound, busySound, queueSound, upSound, pairSound, routeSound, pastSound, sentSound, nodeSound, allSound}
-use Rattle.hop_sound.proofs.RowTests.{Reads, Allows, tells-are, tells-below, tells-differing, tells-same-rows, tells-allow, tells-entries, tells-heard}
+use Rattle.hop_rows.specs.Rows.{byte, bothAre}
+use Rattle.hop_sound.specs.Check.{row, linkSound, downSound, idleSound, toldSound, busySound, queueSound, upSound, pairSound, routeSound, viewsSound, pastSound, sentSound, nodeSound, allSound}
+use Rattle.hop_rows.proofs.RowTests.{Reads, Allows, tells-are, tells-both, tells-below, tells-differing, tells-same-rows, tells-allow, tells-told}
 use Rattle.hop_sound.proofs.Routes.{Given}
 
 -- A choice of tests tells what each of them tells in its case.
 tells-case : {b c d : Bool} {P Q : Type 0} → Tells b P → (P → Tells c Q) → ((P → ⊥) → Tells d Q) → Tells (cond b c d) Q
 tells-case {b = true} t r k = r (t .shows refl)
 tells-case {b = false} t r k = k (tells-not-so t refl)
+
+-- A second test may count on what the first one tells.
+tells-then : {b c : Bool} {P Q : Type 0} → Tells b P → (P → Tells c Q) → Tells (b && c) (P × Q)
+tells-then {b = true} t r = tells-as (λ q. (t .shows refl, q)) (λ h. h .1) (r (t .shows refl))
+tells-then {b = false} t r = record { shows = λ e. absurd (true-not-false (sym e)); if-so = λ h. t .if-so (h .0) }
 
 tells-choice : {b c d : Bool} {P Q R : Type 0} → Tells b P → Tells c Q → Tells d R → Tells (cond b c d) ((P → Q) × ((P → ⊥) → R))
 tells-choice t r k = tells-case t
@@ -40,7 +45,6 @@ digits (suc k) i l = (i / suc k, i % suc k, div-lt-iff-lt-mul (zero-lt-suc k) .1
 -- Of the queue from w to u on an up link.
 pub record Queued (s : List ℕ) (u w : ℕ) : Type 0 where
   pub most : flat s Lengths w u ≤ nodes s
-  pub views : flat s Lengths w u ≢ 0 → (v : ℕ) → v < nodes s → deep s Views u w v ≤ nodes s
   pub below : (p : ℕ) → p < flat s Lengths w u → deep s Destinations w u p < nodes s
   pub values : (p : ℕ) → p < flat s Lengths w u → deep s Values w u p ≡ flat s Distances w (deep s Destinations w u p)
   pub differ : (p : ℕ) → p < flat s Lengths w u → (q : ℕ) → q < p → deep s Destinations w u q ≢ deep s Destinations w u p
@@ -59,10 +63,10 @@ pub record Paired (s : List ℕ) (u w : ℕ) : Type 0 where
 -- Of the places of the queue from w to u.
 pub record Sent (s : List ℕ) (w u : ℕ) : Type 0 where
   pub most : flat s Lengths w u ≤ nodes s
-  pub destinations : (p : ℕ) → p < nodes s → flat s Lengths w u ≤ p → deep s Destinations w u p ≡ 0
-  pub values : (p : ℕ) → p < nodes s → flat s Lengths w u ≤ p → deep s Values w u p ≡ 0
+  pub past : (p : ℕ) → p < nodes s → flat s Lengths w u ≤ p → (deep s Destinations w u p ≡ 0) × (deep s Values w u p ≡ 0)
 
 pub record Judged (s : List ℕ) : Type 0 where
+  pub views : (u w v : ℕ) → u < nodes s → w < nodes s → v < nodes s → deep s Views u w v ≤ nodes s
   pub paired : (u w : ℕ) → u < nodes s → w < nodes s → Paired s u w
   pub given : (u v : ℕ) → u < nodes s → v < nodes s → Given (read s) u v (flat s Distances u v) (flat s Downstreams u v)
   pub sent : (w u : ℕ) → w < nodes s → u < nodes s → Sent s w u
@@ -91,7 +95,6 @@ module _ (s : List ℕ) where
     tells-idle e = tells-as
         (λ h. record {
           most = omega arith;
-          views = λ f. absurd (f e);
           below = λ p l. absurd (omega arith);
           values = λ p l. absurd (omega arith);
           differ = λ p l. absurd (omega arith);
@@ -102,25 +105,16 @@ module _ (s : List ℕ) where
 
     -- else each clause is tested.
     tells-busy : m ≢ 0 → Tells (leb m n && busySound n s u w m) (Queued s u w)
-    unfolding busySound m
+    unfolding busySound toldSound m
     tells-busy f =
-        let views = reads-deep Views u w in
-        let distances = reads-flat Distances w in
         let destinations = reads-deep Destinations w u in
         tells-as
-        (λ h. record {
-          most = h .0;
-          views = λ g v l. omega (arith, h .1 .0 v l);
-          below = λ p l. h .1 .1 .0 p l .0;
-          values = λ p l. h .1 .1 .0 p l .1;
-          differ = h .1 .1 .1 .0;
-          heard = h .1 .1 .1 .1;
-        })
-        (λ h. (h .most, ((λ v l. omega (arith, h .views f v l)), ((λ p l. (h .below p l, h .values p l)), (h .differ, h .heard)))))
+        (λ h. record { most = h .0; below = h .1 .0; values = h .1 .1 .1 .0; differ = h .1 .1 .0; heard = h .1 .1 .1 .1 })
+        (λ h. (h .most, (h .below, (h .differ, (h .values, h .heard)))))
         (tells-and (tells-le m n)
-        (tells-and (tells-below views n (n + 1))
-        (tells-and (tells-entries distances destinations (reads-deep Values w u) n m)
-        (tells-and (tells-differing destinations m) (tells-heard distances destinations views n m)))))
+        (tells-then (tells-below destinations m n)
+        (λ below. tells-then (tells-differing destinations m)
+        (λ differ. tells-told (reads-flat Distances w) (reads-deep Views u w) destinations (reads-deep Values w u) n m below differ))))
 
     tells-queue : Tells (queueSound n s u w) (Queued s u w)
     unfolding queueSound get flat m
@@ -158,37 +152,49 @@ module _ (s : List ℕ) where
       tells-choice (tells-eq u v) (tells-and (tells-eq _ 0) (tells-eq _ u))
       (tells-choice (tells-eq _ n) (tells-eq _ 255) (tells-and (tells-lt _ n) (tells-and (tells-lt _ n) (tells-and (tells-eq _ 1) (tells-eq _ _)))))
 
-  -- The places of a queue from place k on are 0,
-  tells-past : (t : Table) (w u k : ℕ) → Tells (allAre s (row n t (w * n + u) + k) (n - k) 0) ((p : ℕ) → p < n → k ≤ p → deep s t w u p ≡ 0)
+  -- The n rows of a node in a block of n³, as one run of bytes.
+  block-byte : (t : Table) (a w v : ℕ) → byte s (row n t (a * n)) (w * n + v) ≡ deep s t a w v
   unfolding deep
-  tells-past t w u k = tells-as
-      (λ h p l i. ap (λ (i : ℕ). getD s i 0) (omega arith) ∙ h (p - k) (omega arith))
-      (λ h i l. ap (λ (i : ℕ). getD s i 0) (omega arith) ∙ h (k + i) (omega arith) (omega arith))
-      (tells-are (record { reads = λ i. refl }) (n - k) 0)
+  block-byte t a w v = ap (λ (i : ℕ). getD s i 0) (omega (arith, add-mul (a * n) w n))
 
-  -- and all places of all queues of w.
-  tells-block : (t : Table) (w : ℕ) → Tells (allAre s (row n t (w * n)) (n * n) 0) ((u p : ℕ) → u < n → p < n → deep s t w u p ≡ 0)
+  tells-places : {b : Bool} {P : ℕ → Type 0} → Tells b ((i : ℕ) → i < n * n → P i) → Tells b ((w v : ℕ) → w < n → v < n → P (w * n + v))
+  tells-places {P = P} = tells-as
+      (λ h w v lw lv. h (w * n + v) (digits-lt lw lv))
+      (λ h i l. let (w, v, lw, lv, e) = digits n i l in subst P e (h w v lw lv))
+
+  tells-views : (u : ℕ) → Tells (viewsSound n s u) ((w v : ℕ) → w < n → v < n → deep s Views u w v ≤ n)
+  unfolding viewsSound
+  tells-views u = tells-as
+      (λ h w v lw lv. omega (arith, h w v lw lv, block-byte Views u w v))
+      (λ h w v lw lv. omega (arith, h w v lw lv, block-byte Views u w v))
+      (tells-places (tells-below (record { reads = λ i. refl }) (n * n) (n + 1)))
+
+  -- The places of a queue from place k on.
+  past-byte : (t : Table) (w u k i : ℕ) → byte s (row n t (w * n + u) + k) i ≡ deep s t w u (k + i)
   unfolding deep
-  tells-block t w = tells-as
-      (λ h u p lu lp. ap (λ (i : ℕ). getD s i 0) (omega (arith, add-mul (w * n) u n)) ∙ h (u * n + p) (digits-lt lu lp))
-      (λ h i l. let (u, p, lu, lp, e) = digits n i l in ap (λ (i : ℕ). getD s i 0) (omega (arith, add-mul (w * n) u n)) ∙ h u p lu lp)
-      (tells-are (record { reads = λ i. refl }) (n * n) 0)
+  past-byte t w u k i = ap (λ (i : ℕ). getD s i 0) (omega arith)
+
+  tells-past : (w u k : ℕ) → Tells (bothAre s (row n Destinations (w * n + u) + k) (row n Values (w * n + u) + k) (n - k) 0) ((p : ℕ) → p < n → k ≤ p → (deep s Destinations w u p ≡ 0) × (deep s Values w u p ≡ 0))
+  tells-past w u k = tells-as
+      (λ h p l i. subst (λ (p : ℕ). (deep s Destinations w u p ≡ 0) × (deep s Values w u p ≡ 0)) (omega arith) (h (p - k) (omega arith)))
+      (λ h i l. h (k + i) (omega arith) (omega arith))
+      (tells-both (record { reads = past-byte Destinations w u k }) (record { reads = past-byte Values w u k }) (n - k) 0)
 
   tells-sent : (w : ℕ) → Tells (sentSound n s w) ((u : ℕ) → u < n → Sent s w u)
   unfolding sentSound pastSound get flat
   tells-sent w = tells-case (tells-are (reads-flat Lengths w) n 0)
       (λ e. tells-as
-      (λ h u l. record { most = omega (arith, e u l); destinations = λ p k i. h .0 u p l k; values = λ p k i. h .1 u p l k })
-      (λ h. ((λ u p l k. h u l .destinations p k (omega (arith, e u l))), λ u p l k. h u l .values p k (omega (arith, e u l))))
-      (tells-and (tells-block Destinations w) (tells-block Values w)))
+      (λ h u l. record { most = omega (arith, e u l); past = λ p k i. let z = h u p l k in (sym (block-byte Destinations w u p) ∙ z .0, sym (block-byte Values w u p) ∙ z .1) })
+      (λ h u p l k. let z = h u l .past p k (omega (arith, e u l)) in (block-byte Destinations w u p ∙ z .0, block-byte Values w u p ∙ z .1))
+      (tells-places (tells-both (record { reads = λ i. refl }) (record { reads = λ i. refl }) (n * n) 0)))
       (λ f. tells-every n (λ u l. tells-as
-      (λ h. record { most = h .0; destinations = h .1 .0; values = h .1 .1 })
-      (λ h. (h .most, (h .destinations, h .values)))
-      (tells-and (tells-le _ n) (tells-and (tells-past Destinations w u _) (tells-past Values w u _)))))
+      (λ h. record { most = h .0; past = h .1 })
+      (λ h. (h .most, h .past))
+      (tells-and (tells-le _ n) (tells-past w u _))))
 
   pub tells-judged : Tells (allSound n s) (Judged s)
   unfolding allSound nodeSound
   tells-judged = tells-as
-      (λ h. record { paired = λ u w lu. h u lu .0 w; given = λ u v lu. h u lu .1 .0 v; sent = λ w u lw. h w lw .1 .1 u })
-      (λ h u lu. ((λ w. h .paired u w lu), ((λ v. h .given u v lu), λ w. h .sent u w lu)))
-      (tells-every n (λ u l. tells-and (tells-every n (λ w k. tells-paired u w)) (tells-and (tells-every n (λ v k. tells-given u v)) (tells-sent u))))
+      (λ h. record { views = λ u w v lu. h u lu .0 w v; paired = λ u w lu. h u lu .1 .0 w; given = λ u v lu. h u lu .1 .1 .0 v; sent = λ w u lw. h w lw .1 .1 .1 u })
+      (λ h u lu. ((λ w v. h .views u w v lu), ((λ w. h .paired u w lu), ((λ v. h .given u v lu), λ w. h .sent u w lu))))
+      (tells-every n (λ u l. tells-and (tells-views u) (tells-and (tells-every n (λ w k. tells-paired u w)) (tells-and (tells-every n (λ v k. tells-given u v)) (tells-sent u)))))

@@ -1,7 +1,5 @@
-pub mod Every
 pub mod Inside
-pub mod Marks
-pub mod RowTests
+pub mod Ordered
 pub mod Listed
 pub mod Routes
 pub mod Judged

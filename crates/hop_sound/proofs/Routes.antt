@@ -7,7 +7,7 @@ use native.Mathlib.Omega.{arith}
 use Rattle.hop_rule.specs.State.{State}
 use Rattle.hop_rule.specs.Rule.{least, nearest, route}
 use Rattle.hop_laws.proofs.Rule.{least-most, least-under, least-above, Gives, nearest-none, nearest-gives, route-distance-own, route-distance-other, route-distance-most, route-downstream-own, route-downstream-other}
-use Rattle.hop_sound.proofs.RowTests.{Allows}
+use Rattle.hop_rows.proofs.RowTests.{Allows}
 
 -- Every up link of u allows distance d to v by way of h.
 abbrev pub Allowed : State → ℕ → ℕ → ℕ → ℕ → Type 0

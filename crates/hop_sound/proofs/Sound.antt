@@ -2,7 +2,6 @@
 use mathlib.Core.Path.{_≡_, refl, sym, ap}
 use mathlib.Core.List.{List, []}
 use Prim.Native.Nat.{ℕ, _≤_, _<_}
-use native.Mathlib.Decide.{ℕ-discrete}
 use native.Mathlib.Omega.{arith}
 use lib.ListN.{length}
 use Rattle.hop_rule.specs.declared.Table.the-variants.{Links, Distances, Downstreams, Views, Lengths, Destinations, Values}
@@ -13,7 +12,6 @@ use Rattle.hop_rule.specs.Stored.{nodes, flat, deep, read}
 use Rattle.hop_rule.specs.Sound.{SoundBytes, isSoundBytes}
 use Rattle.hop_laws.proofs.Tests.{tells-as, tells-same}
 use Rattle.hop_laws.proofs.Words.{length-listed}
-use Rattle.hop_laws.proofs.Rule.{route-distance-most}
 use Rattle.hop_laws.proofs.Queues.{listed-each}
 use Rattle.hop_laws.proofs.Sound.{sound-bytes-tells}
 use Rattle.hop_sound.specs.Check.{nodeSound, allSound}
@@ -42,7 +40,7 @@ module _ (s : List ℕ) where
       diagonal = λ u lu. j .paired u u lu lu .diagonal refl;
       distances = λ u v lu lv. routed u v lu lv .0;
       downstreams = λ u v lu lv. routed u v lu lv .1;
-      views = λ u w v lu lw lv. views u w v lu lw lv (ℕ-discrete (flat s Links u w) 1) (ℕ-discrete (flat s Lengths w u) 0);
+      views = j .views;
       down-views = λ u w v lu lw lv f. j .paired u w lu lw .down-views f v lv;
       down-queues = λ u w lu lw f. listed-none _ (entry w u) (j .paired u w lu lw .down-queue f);
       lengths = λ u w lu lw. omega (arith, length-listed (flat s Lengths w u) (entry w u), j .sent w u lw lu .most);
@@ -51,30 +49,23 @@ module _ (s : List ℕ) where
       values = λ u w lu lw q. listed-each _ _ (entry w u) (j .paired u w lu lw .queue q .values);
       heard = λ u w v lu lw lv q f. j .paired u w lu lw .queue q .heard v lv (λ p l e. f (at-waits v _ (entry w u) p l e));
     };
-    past-destinations = λ w u p lw lu lp k. j .sent w u lw lu .destinations p lp k;
-    past-values = λ w u p lw lu lp k. j .sent w u lw lu .values p lp k;
+    past-destinations = λ w u p lw lu lp k. j .sent w u lw lu .past p lp k .0;
+    past-values = λ w u p lw lu lp k. j .sent w u lw lu .past p lp k .1;
   }
     where
       routed : (u v : ℕ) → u < n → v < n → (flat s Distances u v ≡ route (read s) u v .distance) × (flat s Downstreams u v ≡ route (read s) u v .downstream)
       routed u v lu lv = given-route (read s) u v _ _ (λ w lw q. j .paired u w lu lw .allows q v lv) (j .given u v lu lv)
 
-      -- On an up link where nothing waits a view is a distance.
-      views : (u w v : ℕ) → u < n → w < n → v < n → Dec (flat s Links u w ≡ 1) → Dec (flat s Lengths w u ≡ 0) → deep s Views u w v ≤ n
-      views u w v lu lw lv (no f) d = omega (arith, j .paired u w lu lw .down-views f v lv)
-      views u w v lu lw lv (yes q) (no f) = j .paired u w lu lw .queue q .views f v lv
-      views u w v lu lw lv (yes q) (yes e) =
-          omega (arith, j .paired u w lu lw .queue q .heard v lv (λ p l. absurd (omega arith)), routed w v lw lv .0, route-distance-most (read s) w v)
-
   sound-judged : SoundBytes s → Judged s
   unfolding read
   sound-judged o = record {
+    views = o .state .views;
     paired = λ u w lu lw. record {
       bit = o .state .bits u w lu lw;
       symmetric = o .state .symmetric u w lu lw;
       diagonal = λ e. rw (← e) (o .state .diagonal u lu);
       queue = λ q. record {
         most = most u w lu lw;
-        views = λ f v lv. o .state .views u w v lu lw lv;
         below = each-at _ _ (entry w u) (o .state .below u w lu lw q);
         values = each-at _ _ (entry w u) (o .state .values u w lu lw q);
         differ = differ-at _ (entry w u) (o .state .differ u w lu lw q);
@@ -87,8 +78,7 @@ module _ (s : List ℕ) where
     given = λ u v lu lv. route-given (read s) u v _ _ (o .state .distances u v lu lv) (o .state .downstreams u v lu lv);
     sent = λ w u lw lu. record {
       most = most u w lu lw;
-      destinations = λ p. o .past-destinations w u p lw lu;
-      values = λ p. o .past-values w u p lw lu;
+      past = λ p lp k. (o .past-destinations w u p lw lu lp k, o .past-values w u p lw lu lp k);
     };
   }
     where

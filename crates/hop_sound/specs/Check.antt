@@ -8,7 +8,7 @@ use Rattle.hop_rule.specs.declared.Table.the-variants.{Links, Distances, Downst
 use Rattle.hop_rule.specs.Words.{if_then_else_, every}
 use Rattle.hop_rule.specs.Stored.{start}
 use Rattle.hop_cells.specs.Cells.{get2, get3}
-use Rattle.hop_sound.specs.Rows.{allAre, allBelow, same, differing, allAllow, entriesSound, allHeard}
+use Rattle.hop_rows.specs.Rows.{allAre, bothAre, allBelow, same, differing, allAllow, allTold}
 
 -- Where row i of a block starts. In a block of n³ the row of a and b is a * n + b.
 abbrev pub row : ℕ → Table → ℕ → ℕ
@@ -26,15 +26,15 @@ downSound n s u w = eqb (get2 n Lengths w u s) 0 && allAre s (row n Views (u * n
 unfoldable pub idleSound : ℕ → List ℕ → ℕ → ℕ → Bool
 idleSound n s u w = same s (row n Views (u * n + w)) (row n Distances w) n
 
--- and where m entries wait, views are at most n, destinations are below n and differ, values are w's distances, and so are the views of what does not wait.
+-- and where m entries wait, u's views from w are w's distances once these are delivered,
+unfoldable pub toldSound : ℕ → List ℕ → ℕ → ℕ → ℕ → Bool
+toldSound n s u w m = allTold s n (row n Views (u * n + w)) (row n Distances w) (row n Destinations (w * n + u)) (row n Values (w * n + u)) m
+
+-- and their destinations are below n and differ.
 unfoldable pub busySound : ℕ → List ℕ → ℕ → ℕ → ℕ → Bool
 busySound n s u w m =
-    let views = row n Views (u * n + w) in
-    let distances = row n Distances w in
     let destinations = row n Destinations (w * n + u) in
-    allBelow s views n (n + 1)
-    && (entriesSound s n distances destinations (row n Values (w * n + u)) m
-    && (differing s destinations m && allHeard s n views distances destinations m))
+    allBelow s destinations m n && (differing s destinations m && toldSound n s u w m)
 
 unfoldable pub queueSound : ℕ → List ℕ → ℕ → ℕ → Bool
 queueSound n s u w =
@@ -48,6 +48,10 @@ upSound n s u w = queueSound n s u w && allAllow s n w (row n Views (u * n + w))
 unfoldable pub pairSound : ℕ → List ℕ → ℕ → ℕ → Bool
 pairSound n s u w = linkSound n s u w && (if eqb (get2 n Links u w s) 1 then upSound n s u w else downSound n s u w)
 
+-- u's views are at most n.
+unfoldable pub viewsSound : ℕ → List ℕ → ℕ → Bool
+viewsSound n s u = allBelow s (row n Views (u * n)) (n * n) (n + 1)
+
 -- u's route to v: its own is distance 0 by way of u; distance n has no downstream; else the downstream is an up neighbour that gives the distance.
 unfoldable pub routeSound : ℕ → List ℕ → ℕ → ℕ → Bool
 routeSound n s u v =
@@ -59,16 +63,16 @@ routeSound n s u v =
 unfoldable pub pastSound : ℕ → List ℕ → ℕ → ℕ → Bool
 pastSound n s w u =
     let m = get2 n Lengths w u s in
-    leb m n && (allAre s (row n Destinations (w * n + u) + m) (n - m) 0 && allAre s (row n Values (w * n + u) + m) (n - m) 0)
+    leb m n && bothAre s (row n Destinations (w * n + u) + m) (row n Values (w * n + u) + m) (n - m) 0
 
 -- and those of all queues of w at once, where none of them holds anything.
 unfoldable pub sentSound : ℕ → List ℕ → ℕ → Bool
 sentSound n s w =
-    if allAre s (row n Lengths w) n 0 then allAre s (row n Destinations (w * n)) (n * n) 0 && allAre s (row n Values (w * n)) (n * n) 0 else every n (pastSound n s w)
+    if allAre s (row n Lengths w) n 0 then bothAre s (row n Destinations (w * n)) (row n Values (w * n)) (n * n) 0 else every n (pastSound n s w)
 
 -- Everything that the bytes hold of node u.
 unfoldable pub nodeSound : ℕ → List ℕ → ℕ → Bool
-nodeSound n s u = every n (pairSound n s u) && (every n (routeSound n s u) && sentSound n s u)
+nodeSound n s u = viewsSound n s u && (every n (pairSound n s u) && (every n (routeSound n s u) && sentSound n s u))
 
 unfoldable pub allSound : ℕ → List ℕ → Bool
 allSound n s = every n (nodeSound n s)

@@ -3,7 +3,6 @@
 mod nodes;
 mod pairs;
 mod places;
-mod rows;
 
 ghost use mathlib.Core.Path.{_≡_};
 ghost use Rattle.hop_rule.specs.Stored.{nodes};

@@ -1,14 +1,21 @@
-// What is judged of a node: its pairs, its routes, and the places of the queues that it sends on.
+// What is judged of a node: its views, its pairs, its routes, and the places of the queues that it sends on.
 
 use crate::pairs;
 use crate::places;
-use crate::rows;
 use hop_rule::Table;
 ghost use mathlib.Core.Path.{_≡_};
 ghost use Prim.Native.Nat.{_<_};
 ghost use Rattle.hop_rule.specs.Words.{every};
 ghost use Rattle.hop_cells.specs.Cells.{Room};
 ghost use Rattle.hop_sound.specs.Check as check;
+
+// u's views are at most n: all at once, since long runs of bytes are judged fastest.
+fn views_sound(s: &[u8], n: usize, u: usize) -> bool
+    requires { ⌜ Room n (now s) × (u < n) ⌝ }
+    ensures { λ r. ⌜ r ≡ check.viewsSound n (now (s .entry)) u ⌝ }
+{
+    hop_rows::all_below(s, places::block(n, Table::Views, u), n * n, n as u8 + 1)
+}
 
 // u's route to v: its own; or none, at distance n; or by way of an up neighbour that gives the distance.
 fn route_sound(s: &[u8], n: usize, u: usize, v: usize) -> bool
@@ -59,10 +66,13 @@ fn past_sound(s: &[u8], n: usize, w: usize, u: usize) -> bool
     if n < m {
         return false;
     }
-    if !rows::all_are(s, places::row3(n, Table::Destinations, w, u) + m, n - m, 0) {
-        return false;
-    }
-    rows::all_are(s, places::row3(n, Table::Values, w, u) + m, n - m, 0)
+    hop_rows::both_are(
+        s,
+        places::row3(n, Table::Destinations, w, u) + m,
+        places::row3(n, Table::Values, w, u) + m,
+        n - m,
+        0,
+    )
 }
 
 fn pasts_sound(s: &[u8], n: usize, w: usize) -> bool
@@ -82,19 +92,25 @@ fn sent_sound(s: &[u8], n: usize, w: usize) -> bool
     requires { ⌜ Room n (now s) × (w < n) ⌝ }
     ensures { λ r. ⌜ r ≡ check.sentSound n (now (s .entry)) w ⌝ }
 {
-    if !rows::all_are(s, places::row2(n, Table::Lengths, w), n, 0) {
+    if !hop_rows::all_are(s, places::row2(n, Table::Lengths, w), n, 0) {
         return pasts_sound(s, n, w);
     }
-    if !rows::all_are(s, places::block(n, Table::Destinations, w), n * n, 0) {
-        return false;
-    }
-    rows::all_are(s, places::block(n, Table::Values, w), n * n, 0)
+    hop_rows::both_are(
+        s,
+        places::block(n, Table::Destinations, w),
+        places::block(n, Table::Values, w),
+        n * n,
+        0,
+    )
 }
 
 pub fn node_sound(s: &[u8], n: usize, u: usize) -> bool
     requires { ⌜ Room n (now s) × (u < n) ⌝ }
     ensures { λ r. ⌜ r ≡ check.nodeSound n (now (s .entry)) u ⌝ }
 {
+    if !views_sound(s, n, u) {
+        return false;
+    }
     if !pairs::pairs_sound(s, n, u) {
         return false;
     }

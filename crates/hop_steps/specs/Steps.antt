@@ -5,9 +5,10 @@ use mathlib.Core.List.{List}
 use Prim.Native.Nat.{ℕ, _+_, _-_, min}
 use lib.Dec.{eqb, ltb}
 use lib.ListN.{set}
-use Rattle.hop_rule.specs.declared.Table.the-variants.{Links, Distances, Downstreams, Views, Destinations, Values}
+use Rattle.hop_rule.specs.declared.Table.{Table}
+use Rattle.hop_rule.specs.declared.Table.the-variants.{Links, Distances, Downstreams, Views, Lengths, Destinations, Values}
 use Rattle.hop_rule.specs.Words.{if_then_else_, loop}
-use Rattle.hop_cells.specs.Cells.{get2, get3, put2, put3}
+use Rattle.hop_cells.specs.Cells.{cells, put, get2, get3, put2, put3}
 use Rattle.hop_queues.specs.Queues.{fill, held, send, takeFirst, offerAll, empty}
 use Rattle.hop_steps.specs.declared.Best.{Best}
 
@@ -90,17 +91,24 @@ recomputeAll n u s = loop n (recompute n u) s
 unfoldable pub linkDown : ℕ → ℕ → ℕ → List ℕ → List ℕ
 linkDown n a b s = recomputeAll n b (recomputeAll n a (cutEnd n b a (cutEnd n a b s)))
 
--- 'Fresh': what u has for v, and its end of the link to v.
-unfoldable pub freshRoute : ℕ → ℕ → ℕ → Best
-freshRoute n u v = if eqb u v then record { distance = 0; downstream = u } else record { distance = n; downstream = 255 }
+-- Every byte of a block becomes x.
+unfoldable pub fillBlock : ℕ → Table → ℕ → List ℕ → List ℕ
+fillBlock n t x s = loop (cells n t) (λ i. put n t i x) s
 
-unfoldable pub freshEnd : ℕ → ℕ → ℕ → List ℕ → List ℕ
-freshEnd n u v s = store n u v (freshRoute n u v) (cutEnd n u v s)
+-- The blocks of n², and those of n³, of a state in which no link is up, no node has any, not even itself, and nothing waits.
+unfoldable pub fillSquares : ℕ → List ℕ → List ℕ
+fillSquares n s = fillBlock n Lengths 0 (fillBlock n Downstreams 255 (fillBlock n Distances n (fillBlock n Links 0 s)))
 
--- Node u of a fresh state.
-unfoldable pub freshNode : ℕ → ℕ → List ℕ → List ℕ
-freshNode n u s = loop n (freshEnd n u) s
+unfoldable pub fillCubes : ℕ → List ℕ → List ℕ
+fillCubes n s = fillBlock n Values 0 (fillBlock n Destinations 0 (fillBlock n Views n s))
 
--- A fresh state of n nodes. No byte is read.
+-- u has itself, at distance 0; and so has every node.
+unfoldable pub ownRoute : ℕ → ℕ → List ℕ → List ℕ
+ownRoute n u s = store n u u (record { distance = 0; downstream = u }) s
+
+unfoldable pub ownRoutes : ℕ → List ℕ → List ℕ
+ownRoutes n s = loop n (ownRoute n) s
+
+-- 'Fresh': a state of n nodes. No byte is read.
 unfoldable pub make : ℕ → List ℕ → List ℕ
-make n s = loop n (freshNode n) (set s 0 n)
+make n s = ownRoutes n (fillCubes n (fillSquares n (set s 0 n)))

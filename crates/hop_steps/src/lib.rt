@@ -1,9 +1,12 @@
 // The events on the bytes of a stored state: recompute, deliver, link up, link down; and a fresh state.
 
+use hop_cells::cube;
 use hop_cells::get2;
 use hop_cells::get3;
 use hop_cells::pair;
+use hop_cells::put;
 use hop_cells::put2;
+use hop_cells::square;
 use hop_cells::start;
 use hop_cells::triple;
 use hop_cells::wide;
@@ -19,7 +22,7 @@ ghost use mathlib.Core.Path.{_≡_};
 ghost use Prim.Native.Nat.{_+_, _*_, _<_, _≤_};
 ghost use lib.ListN.{length, set};
 ghost use Rattle.hop_rule.specs.declared.Table.the-variants.{Views};
-ghost use Rattle.hop_cells.specs.Cells.{Room, put3};
+ghost use Rattle.hop_cells.specs.Cells.{Room, cells, put3};
 ghost use Rattle.hop_steps.specs.Steps as step;
 
 // What recompute finds for a destination.
@@ -237,39 +240,56 @@ pub fn link_down(s: &mut [u8], n: usize, a: usize, b: usize)
     recompute_all(s, n, b);
 }
 
-// What u has for v in a fresh state, and its end of the link to v.
-fn fresh_route(n: usize, u: usize, v: usize) -> Best
-    requires { ⌜ (n ≤ 40) × (u < n) ⌝ }
-    ensures { λ r. ⌜ r ≡ step.freshRoute n u v ⌝ }
+// Every one of the k bytes of a block becomes x: long runs are written fastest.
+fn fill_block(s: &mut [u8], n: usize, t: Table, k: usize, x: u8)
+    requires { ⌜ Room n (now s) × (k ≡ cells n t) ⌝ }
+    ensures { λ r. ⌜ now (s .exit) ≡ step.fillBlock n t x (now (s .entry)) ⌝ }
 {
-    if u == v {
-        Best {
-            distance: 0,
-            downstream: u as u8,
-        }
-    } else {
-        Best {
-            distance: n as u8,
-            downstream: 255,
-        }
+    for i in 0..k {
+        put(s, n, t, i, x);
     }
 }
 
-fn fresh_end(s: &mut [u8], n: usize, u: usize, v: usize)
-    requires { ⌜ Room n (now s) × (u < n) × (v < n) ⌝ }
-    ensures { λ r. ⌜ now (s .exit) ≡ step.freshEnd n u v (now (s .entry)) ⌝ }
+// The blocks of n², and those of n³, of a state in which no node has any, not even itself.
+fn fill_squares(s: &mut [u8], n: usize)
+    requires { ⌜ Room n (now s) ⌝ }
+    ensures { λ r. ⌜ now (s .exit) ≡ step.fillSquares n (now (s .entry)) ⌝ }
 {
-    cut_end(s, n, u, v);
-    store(s, n, u, v, fresh_route(n, u, v));
+    let k = square(n);
+    fill_block(s, n, Table::Links, k, 0);
+    fill_block(s, n, Table::Distances, k, n as u8);
+    fill_block(s, n, Table::Downstreams, k, 255);
+    fill_block(s, n, Table::Lengths, k, 0);
 }
 
-// Node u of a fresh state.
-fn fresh_node(s: &mut [u8], n: usize, u: usize)
-    requires { ⌜ Room n (now s) × (u < n) ⌝ }
-    ensures { λ r. ⌜ now (s .exit) ≡ step.freshNode n u (now (s .entry)) ⌝ }
+fn fill_cubes(s: &mut [u8], n: usize)
+    requires { ⌜ Room n (now s) ⌝ }
+    ensures { λ r. ⌜ now (s .exit) ≡ step.fillCubes n (now (s .entry)) ⌝ }
 {
-    for v in 0..n {
-        fresh_end(s, n, u, v);
+    let k = cube(n);
+    fill_block(s, n, Table::Views, k, n as u8);
+    fill_block(s, n, Table::Destinations, k, 0);
+    fill_block(s, n, Table::Values, k, 0);
+}
+
+// u has itself, at distance 0; and so has every node.
+fn own_route(s: &mut [u8], n: usize, u: usize)
+    requires { ⌜ Room n (now s) × (u < n) ⌝ }
+    ensures { λ r. ⌜ now (s .exit) ≡ step.ownRoute n u (now (s .entry)) ⌝ }
+{
+    let b = Best {
+        distance: 0,
+        downstream: u as u8,
+    };
+    store(s, n, u, u, b);
+}
+
+fn own_routes(s: &mut [u8], n: usize)
+    requires { ⌜ Room n (now s) ⌝ }
+    ensures { λ r. ⌜ now (s .exit) ≡ step.ownRoutes n (now (s .entry)) ⌝ }
+{
+    for u in 0..n {
+        own_route(s, n, u);
     }
 }
 
@@ -279,7 +299,7 @@ pub fn make(s: &mut [u8], n: usize)
     ensures { λ r. ⌜ now (s .exit) ≡ step.make n (now (s .entry)) ⌝ }
 {
     s[0] = n as u8;
-    for u in 0..n {
-        fresh_node(s, n, u);
-    }
+    fill_squares(s, n);
+    fill_cubes(s, n);
+    own_routes(s, n);
 }

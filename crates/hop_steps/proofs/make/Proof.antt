@@ -1,67 +1,54 @@
--- `make` meets its contract: after u turns the nodes below u are written. Assumes nothing.
-use mathlib.Core.Path.{_≡_, refl, sym}
-use Prim.Native.Nat.{_≤_, _-_}
+-- `make` meets its contract: the count is written, the blocks are filled, and each node has itself. Assumes nothing.
 use native.Mathlib.Omega.{arith}
-use lib.ListN.{length, length-set}
+use lib.ListN.{length-set}
 use borrow.Author.Needs.{needs}
 use Rattle.hop_rule.specs.Stored.{size}
-use Rattle.hop_rule.specs.Words.{loop}
-use Rattle.hop_laws.proofs.Words.{loop-none, loop-turn}
-use Rattle.hop_cells.proofs.Loops.{loop-end}
-use Rattle.hop_steps.specs.Steps.{freshNode, make}
+use Rattle.hop_cells.proofs.Places.{room-as}
+use Rattle.hop_steps.specs.Steps.{make}
 use Rattle.hop_steps.proofs.make.Statement.{statement}
 use Rattle.hop_steps.proofs.make.Tie as tie
 
-abbrev Inv-loop : tie.InvT-loop
-Inv-loop s₀ n u₀ s u = (u ≤ n) × (length s ≡ length s₀) × (s ≡ loop u (freshNode n) s₀)
-
-abbrev μ-loop : tie.MeasureT-loop
-μ-loop s₀ n u₀ s u = n - u
-
-cast-s : tie.Need-cast-s Inv-loop μ-loop
+cast-s : tie.Need-cast-s
 cast-s c = search needs
 
-slice-write-s : tie.Need-slice-write-s Inv-loop μ-loop
+slice-write-s : tie.Need-slice-write-s
 unfolding size
 slice-write-s c = omega arith
 
-loop-holds : tie.Need-loop-holds Inv-loop μ-loop
-loop-holds c = (omega arith, refl, sym (loop-none _ _))
+fill-squares-requires : tie.Need-fill-squares-requires
+fill-squares-requires c κs = search needs
 
-fresh-node-requires : tie.Need-fresh-node-requires Inv-loop μ-loop
-fresh-node-requires c κs =
-    let at-loop-test = c .before in
-    let at-args = at-loop-test .before .before .before in
-    let l = length-set (at-args .args .s .now) 0 (at-args .args .n) in (record { most = at-args .pre .most; fits = omega arith }, at-loop-test .loop-test .taken)
+fill-cubes-requires : tie.Need-fill-cubes-requires
+fill-cubes-requires c κs =
+    let at-args = c .before .before .before .before .before .before in
+    let l = length-set (at-args .args .s .now) 0 (at-args .args .n) in room-as (omega arith) (at-args .pre)
 
-add-u : tie.Need-add-u Inv-loop μ-loop
-add-u c = search needs
+own-routes-requires : tie.Need-own-routes-requires
+own-routes-requires c κs =
+    let at-args = c .before .before .before .before .before .before .before .before .before .before in
+    let l = length-set (at-args .args .s .now) 0 (at-args .args .n) in room-as (omega arith) (at-args .pre)
 
-loop-less : tie.Need-loop-less Inv-loop μ-loop
-loop-less c = search needs
+same-length : tie.Need-same-length
+same-length c =
+    let at-args = c .before .before .before .before .before .before .before .before .before .before .before .before .before in
+    let l = length-set (at-args .args .s .now) 0 (at-args .args .n) in omega arith
 
-loop-again : tie.Need-loop-again Inv-loop μ-loop
-loop-again c = (omega arith, omega arith, loop-turn _ _ _ (c .before .before .before .before .before .loop .inv .2) (c .before .before .fresh-node .ensures))
-
-same-length : tie.Need-same-length Inv-loop μ-loop
-same-length c = let l = length-set (c .before .before .before .args .s .now) 0 (c .before .before .before .args .n) in omega arith
-
-returns : tie.Need-returns Inv-loop μ-loop
+returns : tie.Need-returns
 unfolding make
-returns c = loop-end _ _ _ _ (c .before .loop .inv .2) (c .before .loop .inv .0) (c .loop-test .left)
+returns c =
+    let at-own-routes = c .before .before in
+    let at-fill-cubes = at-own-routes .before .before .before .before in
+    let at-fill-squares = at-fill-cubes .before .before .before .before in
+    rw (at-own-routes .own-routes .ensures, at-fill-cubes .fill-cubes .ensures, at-fill-squares .fill-squares .ensures)
 
 pub make-spec : {M : Type 1} → statement M
 make-spec =
     tie.close
     (tie.spec
-    Inv-loop
-    μ-loop
     cast-s
     slice-write-s
-    loop-holds
-    fresh-node-requires
-    add-u
-    loop-less
-    loop-again
+    fill-squares-requires
+    fill-cubes-requires
+    own-routes-requires
     same-length
     returns)

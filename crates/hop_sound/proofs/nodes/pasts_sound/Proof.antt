@@ -6,7 +6,7 @@ use native.Mathlib.Omega.{arith}
 use borrow.Author.Needs.{needs}
 use Rattle.hop_rule.specs.Words.{every}
 use Rattle.hop_sound.specs.Check.{pastSound}
-use Rattle.hop_sound.proofs.Every.{fails, passes, every-none, every-stays, every-fails, every-done}
+use Rattle.hop_rows.proofs.Every.{fails, passes, every-none, every-stays, every-fails, every-done}
 use Rattle.hop_sound.proofs.nodes.pasts_sound.Statement.{statement}
 use Rattle.hop_sound.proofs.nodes.pasts_sound.Tie as tie
 

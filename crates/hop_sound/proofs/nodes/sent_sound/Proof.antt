@@ -16,33 +16,28 @@ pasts-sound-requires c κs = search needs
 
 returns : tie.Need-returns
 unfolding sentSound
-returns c = simp (← c .before .before .before .row2 .ensures .0, ← c .before .before .all-are .ensures, not-true (c .before .before .all-are .result) (c .before .if1 .taken), ← c .pasts-sound .ensures)
+returns c =
+    let lengths = c .before .before in
+    simp (← lengths .before .row2 .ensures .0, ← lengths .all-are .ensures, not-true (lengths .all-are .result) (c .before .if1 .taken), ← c .pasts-sound .ensures)
 
 block-requires : tie.Need-block-requires
 block-requires c κs = search needs
 
-mul-all-are : tie.Need-mul-all-are
-mul-all-are c = search needs
-
-all-are-requires-2 : tie.Need-all-are-requires-2
-all-are-requires-2 c κs = search needs
-
-returns-2 : tie.Need-returns-2
-unfolding sentSound
-returns-2 c = simp (← c .before .before .before .before .before .row2 .ensures .0, ← c .before .before .before .before .all-are .ensures, not-false (c .before .before .before .before .all-are .result) (c .before .before .before .if1 .left), ← c .before .before .block .ensures .0, ← c .before .all-are2 .ensures, not-true (c .before .all-are2 .result) (c .if2 .taken))
-
 block-requires-2 : tie.Need-block-requires-2
 block-requires-2 c κs = search needs
 
-mul-all-are-2 : tie.Need-mul-all-are-2
-mul-all-are-2 c = search needs
+mul-both-are : tie.Need-mul-both-are
+mul-both-are c = search needs
 
-all-are-requires-3 : tie.Need-all-are-requires-3
-all-are-requires-3 c κs = search needs
+both-are-requires : tie.Need-both-are-requires
+both-are-requires c κs = search needs
 
-returns-3 : tie.Need-returns-3
+returns-2 : tie.Need-returns-2
 unfolding sentSound
-returns-3 c = simp (← c .before .before .before .before .before .before .before .row2 .ensures .0, ← c .before .before .before .before .before .before .all-are .ensures, not-false (c .before .before .before .before .before .before .all-are .result) (c .before .before .before .before .before .if1 .left), ← c .before .before .before .before .block .ensures .0, ← c .before .before .before .all-are2 .ensures, not-false (c .before .before .before .all-are2 .result) (c .before .before .if2 .left), ← c .before .block2 .ensures .0, ← c .all-are3 .ensures)
+returns-2 c =
+    let empty = c .before .before .before in
+    let lengths = empty .before in
+    simp (← lengths .before .row2 .ensures .0, ← lengths .all-are .ensures, not-false (lengths .all-are .result) (empty .if1 .left), ← c .before .before .block .ensures .0, ← c .before .block2 .ensures .0, ← c .both-are .ensures)
 
 pub sent-sound-spec : {M : Type 1} → statement M
 sent-sound-spec =
@@ -53,10 +48,7 @@ sent-sound-spec =
     pasts-sound-requires
     returns
     block-requires
-    mul-all-are
-    all-are-requires-2
-    returns-2
     block-requires-2
-    mul-all-are-2
-    all-are-requires-3
-    returns-3)
+    mul-both-are
+    both-are-requires
+    returns-2)

@@ -1,0 +1,4 @@
+pub mod Every
+pub mod ToldRows
+pub mod RowTests
+pub mod RisingRows
