@@ -2,8 +2,9 @@
 //! Times are of one machine and one day; ratios in one process are what can be compared.
 
 use hop_bench::measure::{self, Best};
-use hop_bench::rows::{NODE_COUNTS, checks, rows};
+use hop_bench::rows::{NODE_COUNTS, Row, backward, checks, rows};
 use hop_bench::safe::Safe;
+use hop_harness::compare::call::Call;
 use hop_harness::core::core;
 use hop_harness::engine::Engine;
 use std::hint::black_box;
@@ -23,6 +24,10 @@ fn node_counts() -> Vec<String> {
     NODE_COUNTS.iter().map(|n| format!("n = {n}")).collect()
 }
 
+fn ratios(bests: &[Best]) -> Vec<f64> {
+    bests.iter().map(|best| best.core / best.safe).collect()
+}
+
 /// The best times of each row whose name has a word, for each node count.
 fn times(core: &dyn Engine, safe: &dyn Engine, word: &str) -> Result<Vec<(&'static str, Vec<Best>)>, String> {
     let by_count: Vec<_> = NODE_COUNTS.iter().map(|&n| rows(n)).collect();
@@ -39,12 +44,22 @@ fn bench(core: &dyn Engine, safe: &dyn Engine, word: &str) -> Result<(), String>
     let times = times(core, safe, word)?;
     heading("core / safe Rust, below 1 is faster", &node_counts());
     for (name, bests) in &times {
-        line(name, &bests.iter().map(|best| best.core / best.safe).collect::<Vec<_>>());
+        line(name, &ratios(bests));
     }
     if "records".contains(word) {
         let (write, read) = (measure::write(core, safe)?, measure::read(core, safe)?);
         line("1,000 records written", &[write.core / write.safe]);
         line("1,000 records read", &[read.core / read.safe]);
+    }
+
+    if "check, no queue in order".contains(word) {
+        let row = |n| Row { name: "check, no queue in order", state: backward(n), call: Call::Check };
+        let marks: Result<Vec<Best>, String> = NODE_COUNTS.iter().map(|&n| measure::row(core, safe, &row(n))).collect();
+        let pairs: Result<Vec<Best>, String> =
+            NODE_COUNTS.iter().map(|&n| measure::in_pairs(core, &backward(n))).collect();
+        heading("check, full queues, none in order", &node_counts());
+        line("core / safe Rust in pairs too", &ratios(&pairs?));
+        line("core / safe Rust with marks", &ratios(&marks?));
     }
 
     let steps = NODE_COUNTS.windows(2).map(|pair| format!("{} to {}", pair[0], pair[1])).collect::<Vec<_>>();

@@ -1,6 +1,7 @@
 //! How it is timed: in one process, the two turn and turn about, the best of many. Uses the rows.
 
 use crate::rows::{Row, events, script};
+use crate::safe::calls::check_in_pairs;
 use hop_harness::engine::Engine;
 use std::hint::black_box;
 use std::time::{Duration, Instant};
@@ -88,6 +89,19 @@ pub fn row(core: &dyn Engine, safe: &dyn Engine, row: &Row) -> Result<Best, Stri
     }
     let (mut of_core, mut of_safe) = (Round::new(core, row), Round::new(safe, row));
     Ok(best_of(|| of_core.once(), || of_safe.once()))
+}
+
+/// Times check where no queue is in order, beside the safe check that compares in pairs as the core does.
+pub fn in_pairs(core: &dyn Engine, state: &[u8]) -> Result<Best, String> {
+    if core.check(state) != 0 || check_in_pairs(state) != 0 {
+        return Err(format!("a state of n = {} turned round is refused", state[0]));
+    }
+    fn timed(check: impl Fn(&[u8]) -> u32, state: &[u8]) -> f64 {
+        let start = Instant::now();
+        black_box(check(black_box(state)));
+        each(start, 1)
+    }
+    Ok(best_of(|| timed(|state| core.check(state), state), || timed(check_in_pairs, state)))
 }
 
 /// Times the writing of a thousand event records.

@@ -1,6 +1,7 @@
 //! What is timed: calls on states that a network is often in. Uses the safe implementation to make the states.
 
 use crate::safe::Safe;
+use crate::safe::parts::PartsMut;
 use hop_harness::compare::call::Call;
 use hop_harness::engine::Engine;
 
@@ -31,6 +32,15 @@ fn with_links(n: usize, links: impl Iterator<Item = (usize, usize)>) -> Vec<u8> 
 /// All links up and nothing delivered: every queue is full.
 fn complete(n: usize) -> Vec<u8> {
     with_links(n, (0..n).flat_map(|a| (a + 1..n).map(move |b| (a, b))))
+}
+
+/// The same with every queue turned round, which is as sound: no destination is below the next one.
+pub fn backward(n: usize) -> Vec<u8> {
+    let mut state = complete(n);
+    let parts = PartsMut::of(&mut state, n);
+    parts.destinations.chunks_exact_mut(n).for_each(<[u8]>::reverse);
+    parts.values.chunks_exact_mut(n).for_each(<[u8]>::reverse);
+    state
 }
 
 fn line(n: usize) -> Vec<u8> {

@@ -12,6 +12,10 @@ type Judged<T> = Result<T, u32>;
 
 /// The node count of a sound state.
 fn sound_state(buffer: &[u8]) -> Judged<usize> {
+    sound_by(buffer, sound::<false>)
+}
+
+fn sound_by(buffer: &[u8], is_sound: fn(&Parts) -> bool) -> Judged<usize> {
     let n = usize::from(*buffer.first().ok_or(2_u32)?);
     if !(1..=40).contains(&n) {
         return Err(1);
@@ -19,7 +23,12 @@ fn sound_state(buffer: &[u8]) -> Judged<usize> {
     if buffer.len() < size(n) {
         return Err(2);
     }
-    if sound(&Parts::of(buffer, n)) { Ok(n) } else { Err(3) }
+    if is_sound(&Parts::of(buffer, n)) { Ok(n) } else { Err(3) }
+}
+
+/// Check, with the destinations of a queue compared in pairs. It is not one of the calls: it is timed beside them.
+pub fn check_in_pairs(state: &[u8]) -> u32 {
+    code(sound_by(state, sound::<true>).map(|_| ()))
 }
 
 fn below(n: usize, a: usize, b: usize) -> Judged<()> {

@@ -2,9 +2,10 @@
 
 use super::parts::{NONE, Parts, row};
 
-/// Sound, for a buffer that holds the stored form of n nodes.
-pub fn sound(parts: &Parts) -> bool {
-    links(parts) && (0..parts.n).all(|u| routes(parts, u)) && queues(parts)
+/// Sound, for a buffer that holds the stored form of n nodes. That destinations differ is found out by marks in one
+/// number, or in pairs.
+pub fn sound<const PAIRS: bool>(parts: &Parts) -> bool {
+    links(parts) && (0..parts.n).all(|u| routes(parts, u)) && queues::<PAIRS>(parts)
 }
 
 fn links(parts: &Parts) -> bool {
@@ -57,7 +58,7 @@ fn routes(parts: &Parts, u: usize) -> bool {
     true
 }
 
-fn queues(parts: &Parts) -> bool {
+fn queues<const PAIRS: bool>(parts: &Parts) -> bool {
     let n = parts.n;
     for sender in 0..n {
         let distances = row(parts.distances, n, sender);
@@ -79,9 +80,10 @@ fn queues(parts: &Parts) -> bool {
                 continue;
             }
             let mut seen = 0_u64;
-            for (&v, &value) in waiting.iter().zip(values) {
+            for (place, (&v, &value)) in waiting.iter().zip(values).enumerate() {
+                let twice = PAIRS && waiting[..place].contains(&v);
                 let v = usize::from(v);
-                if v >= n || seen & (1 << v) != 0 || value != distances[v] {
+                if v >= n || twice || (!PAIRS && seen & (1 << v) != 0) || value != distances[v] {
                     return false;
                 }
                 seen |= 1 << v;

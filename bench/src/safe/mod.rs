@@ -3,7 +3,7 @@
 
 pub mod calls;
 mod check;
-mod parts;
+pub mod parts;
 mod steps;
 
 pub use calls::Safe;

@@ -1,6 +1,6 @@
 -- Sending on the bytes is sending on the state: the bound on a length and the case of a full queue are idle. Assumes nothing.
 use mathlib.Core.Path.{_≡_, sym, _∙_}
-use mathlib.Core.Bool.{cond}
+use mathlib.Core.Bool.{cond, _&&_}
 use mathlib.Core.List.{List, [], _∷_, _++_}
 use Prim.Native.Nat.{ℕ, _≤_, _<_}
 use native.Mathlib.Decide.{decLt}
@@ -9,17 +9,16 @@ use lib.Dec.{eqb, ltb}
 use lib.ListN.{length, getD, set, length-set, length-append}
 use borrow.Author.Tests.{eqb-true, eqb-false}
 use Rattle.hop_rule.specs.declared.Table.the-variants.{Lengths, Destinations, Values}
-use Rattle.hop_rule.specs.Words.{first}
 use Rattle.hop_rule.specs.State.{State, Entry}
 use Rattle.hop_rule.specs.Rule as rule
 use Rattle.hop_rule.specs.Stored.{destinationAt}
 use Rattle.hop_rule.specs.Sound.{Waits}
 use Rattle.hop_laws.specs.Holds.{blank}
-use Rattle.hop_laws.proofs.Tests.{tells-lt, choose-so, choose-else}
+use Rattle.hop_laws.proofs.Tests.{Tells, decides, tells-eq, tells-lt, tells-and, choose-so, choose-else}
 use Rattle.hop_laws.proofs.Words.{first-passes, first-before}
 use Rattle.hop_laws.proofs.Read.{destinationAt-getD}
 use Rattle.hop_cells.specs.Cells.{get3, put3}
-use Rattle.hop_queues.specs.Queues.{held, waitsAt, join, send}
+use Rattle.hop_queues.specs.Queues.{held, firstAt, waitsAt, join, send}
 use Rattle.hop_bridge.specs.Carries.{Tidy, Carries}
 use Rattle.hop_bridge.specs.Parts.{withQueue}
 use Rattle.hop_bridge.proofs.Choice.{cond-idle}
@@ -76,22 +75,35 @@ module _ {n : ℕ} {r s : List ℕ} {t : State} (h : Carries n r s t) (w u : ℕ
         at : (c : ℕ) → getD (rule.send e q) c blank ≡ cond (eqb c (length q)) e (getD q c blank)
         at c = rw is (getD-join q c e)
 
-    -- The first place at which v waits, or the length.
+    -- A place at which v waits, or the length.
     place : ℕ
-    place = first (length q) (λ p. eqb (get3 n Destinations w u p s) v)
+    place = waitsAt n w u v (length q) s
+
+    -- Place v is taken where v waits there.
+    tells-here : Tells (ltb v (length q) && eqb (get3 n Destinations w u v s) v) ((v < length q) × (get3 n Destinations w u v s ≡ v))
+    tells-here = tells-and (tells-lt v (length q)) (tells-eq (get3 n Destinations w u v s) v)
 
     place-found : place < length q → getD q place blank .destination ≡ v
-    unfolding place
-    place-found l = sym (destination-is place l) ∙ eqb-true _ v (first-passes (length q) _ l)
+    unfolding place waitsAt firstAt
+    place-found = go (decides tells-here)
+      where
+        go : Dec ((v < length q) × (get3 n Destinations w u v s ≡ v)) → place < length q → getD q place blank .destination ≡ v
+        go (yes i) l = rw (choose-so tells-here v (firstAt n w u v (length q) s) i) (sym (destination-is v (i .0)) ∙ i .1)
+        go (no f) l = let e = choose-else tells-here v (firstAt n w u v (length q) s) f in rw e (sym (destination-is _ (rw e at l)) ∙ eqb-true _ v (first-passes (length q) _ (rw e at l)))
 
     place-none : length q ≤ place → Waits v q → ⊥
-    unfolding place
-    place-none l m =
-        let at = waits-place v q m in
-        eqb-false _ v (first-before (length q) (λ p. eqb (get3 n Destinations w u p s) v) (at .0) (omega (arith, at .1))) (destination-is (at .0) (at .1) ∙ at .2)
+    unfolding place waitsAt firstAt
+    place-none = go (decides tells-here)
+      where
+        go : Dec ((v < length q) × (get3 n Destinations w u v s ≡ v)) → length q ≤ place → Waits v q → ⊥
+        go (yes i) l m = omega (arith, i .0, rw (choose-so tells-here v (firstAt n w u v (length q) s) i) at l)
+        go (no f) l m =
+            let e = choose-else tells-here v (firstAt n w u v (length q) s) f in
+            let at = waits-place v q m in
+            eqb-false _ v (first-before (length q) (λ p. eqb (get3 n Destinations w u p s) v) (at .0) (omega (arith, at .1, rw e at l))) (destination-is (at .0) (at .1) ∙ at .2)
 
     pub send-carries : Carries n r (send n w u v d s) (withQueue t w u (rule.send (record { destination = v; value = d }) (t .queue w u)))
-    unfolding send waitsAt place
+    unfolding send place
     send-carries = rw held-is (go (decLt place (length q)))
       where
         full : List ℕ

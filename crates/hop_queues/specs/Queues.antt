@@ -1,5 +1,6 @@
 -- What the code does to the bytes of one queue. Every definition is total: where bytes are not sound it does something, which no public contract speaks of.
 -- n comes first, then the indices, and the bytes last, so that a definition without its last two arguments is the body of a loop. Used by the code's own definitions; a buyer needs none of it.
+use mathlib.Core.Bool.{_&&_}
 use mathlib.Core.List.{List}
 use Prim.Native.Nat.{ℕ, _+_, min}
 use lib.Dec.{eqb, ltb}
@@ -17,8 +18,12 @@ abbrev pub held : ℕ → ℕ → ℕ → List ℕ → ℕ
 held n w u s = min (get2 n Lengths w u s) n
 
 -- The first of the queue's places 0, 1, .. m − 1 at which v waits, or m.
+unfoldable pub firstAt : ℕ → ℕ → ℕ → ℕ → ℕ → List ℕ → ℕ
+firstAt n w u v m s = first m (λ p. eqb (get3 n Destinations w u p s) v)
+
+-- A place at which v waits, or m: place v, where link up puts it, or else the first.
 unfoldable pub waitsAt : ℕ → ℕ → ℕ → ℕ → ℕ → List ℕ → ℕ
-waitsAt n w u v m s = first m (λ p. eqb (get3 n Destinations w u p s) v)
+waitsAt n w u v m s = if ltb v m && eqb (get3 n Destinations w u v s) v then v else firstAt n w u v m s
 
 -- The entry (v, d) joins the tail, which is place p.
 unfoldable pub join : ℕ → ℕ → ℕ → ℕ → ℕ → ℕ → List ℕ → List ℕ

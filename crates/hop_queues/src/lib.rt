@@ -36,9 +36,9 @@ pub fn held(s: &[u8], n: usize, w: usize, u: usize) -> usize
 }
 
 // The first of the places below m at which v waits, or m.
-fn waits_at(s: &[u8], n: usize, w: usize, u: usize, v: usize, m: usize) -> usize
+fn first_at(s: &[u8], n: usize, w: usize, u: usize, v: usize, m: usize) -> usize
     requires { ⌜ Room n (now s) × (w < n) × (u < n) × (m ≤ n) ⌝ }
-    ensures { λ r. ⌜ r ≡ queue.waitsAt n w u v m (now (s .entry)) ⌝ }
+    ensures { λ r. ⌜ r ≡ queue.firstAt n w u v m (now (s .entry)) ⌝ }
 {
     for p in 0..m {
         if get3(s, n, Table::Destinations, w, u, p) == v {
@@ -46,6 +46,19 @@ fn waits_at(s: &[u8], n: usize, w: usize, u: usize, v: usize, m: usize) -> usize
         }
     }
     m
+}
+
+// A place at which v waits, or m. Link up puts v at place v, so that one is looked at first.
+fn waits_at(s: &[u8], n: usize, w: usize, u: usize, v: usize, m: usize) -> usize
+    requires { ⌜ Room n (now s) × (w < n) × (u < n) × (m ≤ n) ⌝ }
+    ensures { λ r. ⌜ r ≡ queue.waitsAt n w u v m (now (s .entry)) ⌝ }
+{
+    if v < m {
+        if get3(s, n, Table::Destinations, w, u, v) == v {
+            return v;
+        }
+    }
+    first_at(s, n, w, u, v, m)
 }
 
 // The entry (v, d) joins the tail, which is place p.
