@@ -49,21 +49,29 @@ example: $(HOP_ARCHIVE) | $(HARNESS_OUT)
 	@$(CC) $(C_FLAGS) -O2 examples/ring.c $(HOP_ARCHIVE) -o $(HARNESS_OUT)/ring
 	@$(HARNESS_OUT)/ring
 
+# What the sanitizers run: the comparison with few cases of each group, without those that are all-or-nothing and long.
+# Its fences have closed pages on both sides with or without them.
+FEW := --cases 5 --skip three-nodes --skip every-node-count --skip every-byte --skip numbers
+
 # Reads of what nobody wrote and accesses outside of a buffer, in the archive's own code: exact buffers from C, then
-# the comparison with few cases. Its fences have closed pages on both sides with or without valgrind.
+# the comparison.
 valgrind: $(HOP_ARCHIVE) $(HOP_PROGRAM) | $(HARNESS_OUT)
 	@$(CC) $(C_FLAGS) -O1 -g harness/c/drive.c $(HOP_ARCHIVE) -o $(HARNESS_OUT)/drive
 	@valgrind --quiet --leak-check=full --error-exitcode=1 $(HARNESS_OUT)/drive
 	@$(HARNESS_CARGO) build --quiet --release -p hop_harness
-	@valgrind --quiet --error-exitcode=1 $(HARNESS_BIN)/compare --program $(HOP_PROGRAM) --cases 5 \
-		--skip three-nodes --skip every-node-count --skip every-byte --skip numbers
+	@valgrind --quiet --error-exitcode=1 $(HARNESS_BIN)/compare --program $(HOP_PROGRAM) $(FEW)
 
-# The same calls from C under the address and undefined-behaviour sanitizers. The archive is not instrumented: what
-# they see is the C side, the header's use, and what the archive hands to the C library.
-asan: $(HOP_ARCHIVE) | $(HARNESS_OUT)
+# The same under the address sanitizer, and from C under the one for undefined behaviour too. The archive is not
+# instrumented: what they see is the callers' side, the header's use, and what the archive hands to the C library.
+# Rust has its sanitizer behind a flag that is not stable, hence RUSTC_BOOTSTRAP; it needs its own folder.
+ASAN_TARGET := x86_64-unknown-linux-gnu
+asan: $(HOP_ARCHIVE) $(HOP_PROGRAM) | $(HARNESS_OUT)
 	@$(CC) $(C_FLAGS) -O1 -g -fsanitize=address,undefined -fno-sanitize-recover=all \
 		harness/c/drive.c $(HOP_ARCHIVE) -o $(HARNESS_OUT)/drive-asan
 	@$(HARNESS_OUT)/drive-asan
+	@RUSTC_BOOTSTRAP=1 RUSTFLAGS=-Zsanitizer=address $(HARNESS_CARGO) build --quiet --release -p hop_harness \
+		--target $(ASAN_TARGET) --target-dir build/asan
+	@build/asan/$(ASAN_TARGET)/release/compare --program $(HOP_PROGRAM) $(FEW)
 
 # The safe implementation that the core is timed against, held to the second one. Needs no archive.
 bench-test:

@@ -14,7 +14,7 @@ use Rattle.hop_laws.proofs.Tests.{tells-eq, tells-and, decides}
 use Rattle.hop_laws.proofs.Words.{loop-keeps}
 use Rattle.hop_laws.proofs.Rule.{route-same, route-alike, route-distance-most, hear-view-at, hear-view-other, hear-queue-at, hear-queue-other, deliver-head, deliver-none, Between, tells-between, between-back, up-link-at, up-link-other, up-queue-at, up-queue-other, cut-link-at, cut-link-other, cut-view-at, cut-view-other, cut-queue-at, cut-queue-other}
 use Rattle.hop_rest.proofs.Frame.{deliver-n}
-use Rattle.hop_rest.proofs.Mended.{Carries, Steady, SoundBut, sound-steady, but-sound, carries-same, carries-hear, carries-all, recompute-mends, recompute-all-mends, recompute-all-n}
+use Rattle.hop_rest.proofs.Mended.{Brings, Steady, SoundBut, sound-steady, but-sound, brings-same, brings-hear, brings-all, recompute-mends, recompute-all-mends, recompute-all-n}
 
 -- ---- deliver
 
@@ -34,19 +34,19 @@ module _ (s : State) (w u : ℕ) (head : Entry) (rest : List Entry) (o : Sound s
   c : Steady s
   c = sound-steady o
 
-  first : Carries (s .n) (s .distance w) (s .view u w) (head ∷ rest)
-  first = subst (Carries (s .n) (s .distance w) (s .view u w)) waits (c .carries u w lu lw linked)
+  first : Brings (s .n) (s .distance w) (s .view u w) (head ∷ rest)
+  first = subst (Brings (s .n) (s .distance w) (s .view u w)) waits (c .brings u w lu lw linked)
 
-  heard-carries : (x y : ℕ) → x < s .n → y < s .n → s .link x y ≡ 1 → Carries (s .n) (s .distance y) (hear s w u head rest .view x y) (hear s w u head rest .queue y x)
-  heard-carries x y lx ly q = go (decides (tells-and (tells-eq y w) (tells-eq x u)))
+  heard-brings : (x y : ℕ) → x < s .n → y < s .n → s .link x y ≡ 1 → Brings (s .n) (s .distance y) (hear s w u head rest .view x y) (hear s w u head rest .queue y x)
+  heard-brings x y lx ly q = go (decides (tells-and (tells-eq y w) (tells-eq x u)))
     where
-      go : Dec ((y ≡ w) × (x ≡ u)) → Carries (s .n) (s .distance y) (hear s w u head rest .view x y) (hear s w u head rest .queue y x)
+      go : Dec ((y ≡ w) × (x ≡ u)) → Brings (s .n) (s .distance y) (hear s w u head rest .view x y) (hear s w u head rest .queue y x)
       go (yes p) =
           rw (p .0, p .1, hear-queue-at s w u head rest)
-          (carries-hear _ _ _ _ head rest (hear-view-at s w u head rest) (λ v k. hear-view-other s w u head rest u w v (λ i j. k)) first)
+          (brings-hear _ _ _ _ head rest (hear-view-at s w u head rest) (λ v k. hear-view-other s w u head rest u w v (λ i j. k)) first)
       go (no f) =
           rw (hear-queue-other s w u head rest y x (λ i j. f (i, j)))
-          (carries-same _ _ _ _ _ _ (λ v l. refl) (λ v l. hear-view-other s w u head rest x y v (λ i j. absurd (f (j, i)))) (c .carries x y lx ly q))
+          (brings-same _ _ _ _ _ _ (λ v l. refl) (λ v l. hear-view-other s w u head rest x y v (λ i j. absurd (f (j, i)))) (c .brings x y lx ly q))
 
   -- What is heard makes one pair stale.
   hear-stale : SoundBut (λ a b. (a ≡ u) × (b ≡ head .destination)) (hear s w u head rest)
@@ -59,7 +59,7 @@ module _ (s : State) (w u : ℕ) (head : Entry) (rest : List Entry) (o : Sound s
       views = λ x y v lx ly lv. low x y v lx ly lv (decides (tells-and (tells-eq x u) (tells-and (tells-eq y w) (tells-eq v (head .destination)))));
       down-views = λ x y v lx ly lv f. hear-view-other s w u head rest x y v (λ i j. absurd (f (is-linked x y i j))) ∙ c .down-views x y v lx ly lv f;
       down-queues = λ x y lx ly f. hear-queue-other s w u head rest y x (λ j i. f (is-linked x y i j)) ∙ c .down-queues x y lx ly f;
-      carries = heard-carries;
+      brings = heard-brings;
     };
     distances = λ a b la lb f. o .distances a b la lb ∙ sym (ap (λ (r : Route). r .distance) (same a b f));
     downstreams = λ a b la lb f. o .downstreams a b la lb ∙ sym (ap (λ (r : Route). r .downstream) (same a b f));
@@ -95,10 +95,10 @@ module _ (s : State) (a b : ℕ) (o : Sound s) where
   cut-symmetric x y lx ly (yes h) = cut-link-at s a b x y h ∙ sym (cut-link-at s a b y x (between-back h))
   cut-symmetric x y lx ly (no f) = cut-link-other s a b x y f ∙ o .symmetric x y lx ly ∙ sym (cut-link-other s a b y x (λ h. f (between-back h)))
 
-  cut-carries : (x y : ℕ) → x < s .n → y < s .n → cut s a b .link x y ≡ 1 → (Between a b x y → ⊥) → Carries (s .n) (s .distance y) (cut s a b .view x y) (cut s a b .queue y x)
-  cut-carries x y lx ly q f =
+  cut-brings : (x y : ℕ) → x < s .n → y < s .n → cut s a b .link x y ≡ 1 → (Between a b x y → ⊥) → Brings (s .n) (s .distance y) (cut s a b .view x y) (cut s a b .queue y x)
+  cut-brings x y lx ly q f =
       rw (cut-queue-other s a b y x (λ h. f (between-back h)))
-      (carries-same _ _ _ _ _ _ (λ v l. refl) (λ v l. cut-view-other s a b x y v f) (sound-steady o .carries x y lx ly (sym (cut-link-other s a b x y f) ∙ q)))
+      (brings-same _ _ _ _ _ _ (λ v l. refl) (λ v l. cut-view-other s a b x y v f) (sound-steady o .brings x y lx ly (sym (cut-link-other s a b x y f) ∙ q)))
 
   -- Each end's pairs may be stale.
   cut-stale : SoundBut (λ x v. (x ≡ a) ⊎ (x ≡ b)) (cut s a b)
@@ -111,7 +111,7 @@ module _ (s : State) (a b : ℕ) (o : Sound s) where
       views = λ x y v lx ly lv. view x y v lx ly lv (decides (tells-between a b x y));
       down-views = λ x y v lx ly lv f. down-view x y v lx ly lv f (decides (tells-between a b x y));
       down-queues = λ x y lx ly f. down-queue x y lx ly f (decides (tells-between a b x y));
-      carries = λ x y lx ly q. cut-carries x y lx ly q (λ h. omega (arith, cut-link-at s a b x y h));
+      brings = λ x y lx ly q. cut-brings x y lx ly q (λ h. omega (arith, cut-link-at s a b x y h));
     };
     distances = λ x v lx lv f. o .distances x v lx lv ∙ sym (ap (λ (r : Route). r .distance) (same x v f));
     downstreams = λ x v lx lv f. o .downstreams x v lx lv ∙ sym (ap (λ (r : Route). r .downstream) (same x v f));
@@ -162,9 +162,9 @@ module _ (s : State) (a b : ℕ) (o : Sound s) (la : a < s .n) (lb : b < s .n) (
   up-symmetric x y lx ly (yes h) = up-link-at s a b x y h ∙ sym (up-link-at s a b y x (between-back h))
   up-symmetric x y lx ly (no f) = up-link-other s a b x y f ∙ o .symmetric x y lx ly ∙ sym (up-link-other s a b y x (λ h. f (between-back h)))
 
-  up-carries : (x y : ℕ) → x < s .n → y < s .n → linkUp s a b .link x y ≡ 1 → Dec (Between a b x y) → Carries (s .n) (s .distance y) (s .view x y) (linkUp s a b .queue y x)
-  up-carries x y lx ly q (yes h) = rw (up-queue-at s a b y x (between-back h)) (carries-all (s .n) (s .distance y) (s .view x y))
-  up-carries x y lx ly q (no f) = rw (up-queue-other s a b y x (λ h. f (between-back h))) (sound-steady o .carries x y lx ly (sym (up-link-other s a b x y f) ∙ q))
+  up-brings : (x y : ℕ) → x < s .n → y < s .n → linkUp s a b .link x y ≡ 1 → Dec (Between a b x y) → Brings (s .n) (s .distance y) (s .view x y) (linkUp s a b .queue y x)
+  up-brings x y lx ly q (yes h) = rw (up-queue-at s a b y x (between-back h)) (brings-all (s .n) (s .distance y) (s .view x y))
+  up-brings x y lx ly q (no f) = rw (up-queue-other s a b y x (λ h. f (between-back h))) (sound-steady o .brings x y lx ly (sym (up-link-other s a b x y f) ∙ q))
 
   -- The views on it are n, so that recompute finds what it found.
   up-route : (x v : ℕ) → x < s .n → v < s .n → route (linkUp s a b) x v ≡ route s x v
@@ -189,7 +189,7 @@ module _ (s : State) (a b : ℕ) (o : Sound s) (la : a < s .n) (lb : b < s .n) (
       views = o .views;
       down-views = λ x y v lx ly lv k. o .down-views x y v lx ly lv (λ q. k (up-link-other s a b x y (off x y k) ∙ q));
       down-queues = λ x y lx ly k. up-queue-other s a b y x (λ h. off x y k (between-back h)) ∙ o .down-queues x y lx ly (λ q. k (up-link-other s a b x y (off x y k) ∙ q));
-      carries = λ x y lx ly q. up-carries x y lx ly q (decides (tells-between a b x y));
+      brings = λ x y lx ly q. up-brings x y lx ly q (decides (tells-between a b x y));
     };
     distances = λ x v lx lv f. o .distances x v lx lv ∙ sym (ap (λ (r : Route). r .distance) (up-route x v lx lv));
     downstreams = λ x v lx lv f. o .downstreams x v lx lv ∙ sym (ap (λ (r : Route). r .downstream) (up-route x v lx lv));

@@ -18,31 +18,31 @@ use Rattle.hop_laws.proofs.Queues.{each-as, each-both, send-sends, send-keeps, 
 -- ---- a queue and its two ends
 
 -- What an up link's queue is sound by: the sender's distances, the receiver's views of what they were, and the entries between them.
-pub record Carries (n : ℕ) (distance view : ℕ → ℕ) (q : List Entry) : Type 0 where
+pub record Brings (n : ℕ) (distance view : ℕ → ℕ) (q : List Entry) : Type 0 where
   pub differ : Differ q
   pub entries : Each (λ e. (e .destination < n) × (e .value ≡ distance (e .destination))) q
   pub heard : (v : ℕ) → v < n → (Waits v q → ⊥) → view v ≡ distance v
 
 -- Nothing else is read.
-pub carries-same : (n : ℕ) (d d′ m m′ : ℕ → ℕ) (q : List Entry) → ((v : ℕ) → v < n → d′ v ≡ d v) → ((v : ℕ) → v < n → m′ v ≡ m v) → Carries n d m q → Carries n d′ m′ q
-carries-same n d d′ m m′ q f g c = record {
+pub brings-same : (n : ℕ) (d d′ m m′ : ℕ → ℕ) (q : List Entry) → ((v : ℕ) → v < n → d′ v ≡ d v) → ((v : ℕ) → v < n → m′ v ≡ m v) → Brings n d m q → Brings n d′ m′ q
+brings-same n d d′ m m′ q f g c = record {
   differ = c .differ;
   entries = each-as _ _ q (λ e p. (p .0, p .1 ∙ sym (f (e .destination) (p .0)))) (c .entries);
   heard = λ v l k. g v l ∙ c .heard v l k ∙ sym (f v l);
 }
 
 -- The sender's distance to v changes, and is sent.
-pub carries-send : (n : ℕ) (d d′ m : ℕ → ℕ) (e : Entry) (q : List Entry) → e .destination < n → e .value ≡ d′ (e .destination) → ((v : ℕ) → v ≢ e .destination → d′ v ≡ d v)
-    → Carries n d m q → Carries n d′ m (send e q)
-carries-send n d d′ m e q l i f c = record {
+pub brings-send : (n : ℕ) (d d′ m : ℕ → ℕ) (e : Entry) (q : List Entry) → e .destination < n → e .value ≡ d′ (e .destination) → ((v : ℕ) → v ≢ e .destination → d′ v ≡ d v)
+    → Brings n d m q → Brings n d′ m (send e q)
+brings-send n d d′ m e q l i f c = record {
   differ = send-differ e q (c .differ);
   entries = send-each e _ _ q (l, i) (λ x k p. (p .0, p .1 ∙ sym (f (x .destination) k))) (c .differ) (c .entries);
   heard = λ v lv k. c .heard v lv (λ w. k (send-keeps e v q w)) ∙ sym (f v (λ j. k (subst (λ (x : ℕ). Waits x (send e q)) (sym j) (send-sends e q))));
 }
 
 -- The head is heard.
-pub carries-hear : (n : ℕ) (d m m′ : ℕ → ℕ) (e : Entry) (q : List Entry) → m′ (e .destination) ≡ e .value → ((v : ℕ) → v ≢ e .destination → m′ v ≡ m v) → Carries n d m (e ∷ q) → Carries n d m′ q
-carries-hear n d m m′ e q i f c = record {
+pub brings-hear : (n : ℕ) (d m m′ : ℕ → ℕ) (e : Entry) (q : List Entry) → m′ (e .destination) ≡ e .value → ((v : ℕ) → v ≢ e .destination → m′ v ≡ m v) → Brings n d m (e ∷ q) → Brings n d m′ q
+brings-hear n d m m′ e q i f c = record {
   differ = c .differ .1;
   entries = c .entries .1;
   heard = λ v l k. go v l k (ℕ-discrete v (e .destination));
@@ -53,8 +53,8 @@ carries-hear n d m m′ e q i f c = record {
     go v l k (no j) = f v j ∙ c .heard v l (λ w. elim w [ inl x ↦ j x | inr y ↦ k y ])
 
 -- All destinations wait.
-pub carries-all : (n : ℕ) (d m : ℕ → ℕ) → Carries n d m (listed n (λ v. record { destination = v; value = d v }))
-carries-all n d m = record {
+pub brings-all : (n : ℕ) (d m : ℕ → ℕ) → Brings n d m (listed n (λ v. record { destination = v; value = d v }))
+brings-all n d m = record {
   differ = listed-differ f (λ v. refl) n;
   entries = listed-each _ n f (λ v l. (l, refl));
   heard = λ v l k. absurd (k (listed-waits f (λ v. refl) n v l));
@@ -72,7 +72,7 @@ pub record Steady (s : State) : Type 0 where
   pub views : (u w v : ℕ) → u < s .n → w < s .n → v < s .n → s .view u w v ≤ s .n
   pub down-views : (u w v : ℕ) → u < s .n → w < s .n → v < s .n → s .link u w ≢ 1 → s .view u w v ≡ s .n
   pub down-queues : (u w : ℕ) → u < s .n → w < s .n → s .link u w ≢ 1 → s .queue w u ≡ []
-  pub carries : (u w : ℕ) → u < s .n → w < s .n → s .link u w ≡ 1 → Carries (s .n) (s .distance w) (s .view u w) (s .queue w u)
+  pub brings : (u w : ℕ) → u < s .n → w < s .n → s .link u w ≡ 1 → Brings (s .n) (s .distance w) (s .view u w) (s .queue w u)
 
 -- Sound, but that the pairs of P may be stale.
 pub record SoundBut (P : ℕ → ℕ → Type 0) (s : State) : Type 0 where
@@ -88,7 +88,7 @@ sound-steady {s} o = record {
   views = o .views;
   down-views = o .down-views;
   down-queues = o .down-queues;
-  carries = λ u w lu lw q. record {
+  brings = λ u w lu lw q. record {
     differ = o .differ u w lu lw q;
     entries = each-both _ _ (s .queue w u) (o .below u w lu lw q) (o .values u w lu lw q);
     heard = λ v lv k. o .heard u w v lu lw lv q k;
@@ -107,20 +107,20 @@ but-sound P s none o = record {
   down-views = c .down-views;
   down-queues = c .down-queues;
   lengths = λ u w lu lw. short u w lu lw (ℕ-discrete (s .link u w) 1);
-  differ = λ u w lu lw q. c .carries u w lu lw q .differ;
+  differ = λ u w lu lw q. c .brings u w lu lw q .differ;
   below = below;
-  values = λ u w lu lw q. each-as _ _ (s .queue w u) (λ e p. p .1) (c .carries u w lu lw q .entries);
-  heard = λ u w v lu lw lv q k. c .carries u w lu lw q .heard v lv k;
+  values = λ u w lu lw q. each-as _ _ (s .queue w u) (λ e p. p .1) (c .brings u w lu lw q .entries);
+  heard = λ u w v lu lw lv q k. c .brings u w lu lw q .heard v lv k;
 }
   where
     c : Steady s
     c = o .steady
 
     below : (u w : ℕ) → u < s .n → w < s .n → s .link u w ≡ 1 → Each (λ e. e .destination < s .n) (s .queue w u)
-    below u w lu lw q = each-as _ _ (s .queue w u) (λ e p. p .0) (c .carries u w lu lw q .entries)
+    below u w lu lw q = each-as _ _ (s .queue w u) (λ e p. p .0) (c .brings u w lu lw q .entries)
 
     short : (u w : ℕ) → u < s .n → w < s .n → Dec (s .link u w ≡ 1) → length (s .queue w u) ≤ s .n
-    short u w lu lw (yes q) = differ-most (s .n) (s .queue w u) (c .carries u w lu lw q .differ) (below u w lu lw q)
+    short u w lu lw (yes q) = differ-most (s .n) (s .queue w u) (c .brings u w lu lw q .differ) (below u w lu lw q)
     short u w lu lw (no f) = rw (c .down-queues u w lu lw f) (omega arith)
 
 -- ---- recompute of v at u mends the pair u, v
@@ -142,17 +142,17 @@ module _ (P : ℕ → ℕ → Type 0) (s : State) (u v : ℕ) (lu : u < s .n) (l
       go (no k) = recompute-distance-other s u v a b (λ i j. k (i, j))
 
   -- A queue of an up link: u sent on it, or its sender's distances stay.
-  mended-carries : (x y : ℕ) → x < s .n → y < s .n → s .link x y ≡ 1 → Carries (s .n) (recompute s u v .distance y) (s .view x y) (recompute s u v .queue y x)
-  mended-carries x y lx ly q = go (ℕ-discrete y u) (ℕ-discrete (route s u v .distance) (s .distance u v))
+  mended-brings : (x y : ℕ) → x < s .n → y < s .n → s .link x y ≡ 1 → Brings (s .n) (recompute s u v .distance y) (s .view x y) (recompute s u v .queue y x)
+  mended-brings x y lx ly q = go (ℕ-discrete y u) (ℕ-discrete (route s u v .distance) (s .distance u v))
     where
-      kept : (y ≡ u → route s u v .distance ≡ s .distance u v) → Carries (s .n) (recompute s u v .distance y) (s .view x y) (recompute s u v .queue y x)
-      kept f = rw (recompute-queue-other s u v y x (λ i k. f i)) (carries-same _ _ _ _ _ _ (λ b l. kept-distance y b f) (λ b l. refl) (c .carries x y lx ly q))
+      kept : (y ≡ u → route s u v .distance ≡ s .distance u v) → Brings (s .n) (recompute s u v .distance y) (s .view x y) (recompute s u v .queue y x)
+      kept f = rw (recompute-queue-other s u v y x (λ i k. f i)) (brings-same _ _ _ _ _ _ (λ b l. kept-distance y b f) (λ b l. refl) (c .brings x y lx ly q))
 
-      go : Dec (y ≡ u) → Dec (route s u v .distance ≡ s .distance u v) → Carries (s .n) (recompute s u v .distance y) (s .view x y) (recompute s u v .queue y x)
+      go : Dec (y ≡ u) → Dec (route s u v .distance ≡ s .distance u v) → Brings (s .n) (recompute s u v .distance y) (s .view x y) (recompute s u v .queue y x)
       go (yes i) (no f) =
           let r : s .link x u ≡ 1 = rw i at q in
           rw (i, recompute-queue-sent s u v x (c .symmetric u x lu lx ∙ r) f)
-          (carries-send _ _ _ _ (record { destination = v; value = route s u v .distance }) _ lv (sym (recompute-distance-at s u v)) (λ b k. recompute-distance-other s u v u b (λ j. k)) (c .carries x u lx lu r))
+          (brings-send _ _ _ _ (record { destination = v; value = route s u v .distance }) _ lv (sym (recompute-distance-at s u v)) (λ b k. recompute-distance-other s u v u b (λ j. k)) (c .brings x u lx lu r))
       go (yes i) (yes e) = kept (λ z. e)
       go (no i) e = kept (λ z. absurd (i z))
 
@@ -166,7 +166,7 @@ module _ (P : ℕ → ℕ → Type 0) (s : State) (u v : ℕ) (lu : u < s .n) (l
       views = c .views;
       down-views = c .down-views;
       down-queues = λ x y lx ly f. recompute-queue-other s u v y x (λ i q. absurd (f (c .symmetric x y lx ly ∙ ap (λ (z : ℕ). s .link z x) i ∙ q))) ∙ c .down-queues x y lx ly f;
-      carries = mended-carries;
+      brings = mended-brings;
     };
     distances = λ a b la lb f. distance a b la lb f (decides (tells-and (tells-eq a u) (tells-eq b v))) ∙ sym (ap (λ (r : Route). r .distance) (same-route a b));
     downstreams = λ a b la lb f. downstream a b la lb f (decides (tells-and (tells-eq a u) (tells-eq b v))) ∙ sym (ap (λ (r : Route). r .downstream) (same-route a b));

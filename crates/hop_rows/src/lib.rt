@@ -1,5 +1,5 @@
-// Tests on rows of bytes. A loop goes over contiguous bytes to their end, and one comparison a turn takes the mark `ok` away:
-// that form is compiled to vector instructions, and one with a way out, or with a test of several parts, is not.
+// Tests on rows of bytes. A loop goes over contiguous bytes to their end, and a byte that fails takes the mark `ok` away:
+// that form is compiled to vector instructions, and one with a way out, or with a test that waits for another, is not.
 
 ghost use mathlib.Core.Path.{_≡_};
 ghost use mathlib.Core.Bool.{true};
