@@ -1,5 +1,5 @@
 -- Each question, where no refusal applies: what the code reads or counts is the answer of the call's outcome. Assumes nothing.
-use mathlib.Core.Path.{_≡_, sym, ap, _∙_}
+use mathlib.Core.Path.{_≡_, refl, sym, ap, _∙_}
 use mathlib.Core.List.{List, [], _∷_}
 use Prim.Native.Nat.{ℕ, _≤_, _<_}
 use native.Mathlib.Omega.{arith}
@@ -9,7 +9,7 @@ use Rattle.hop_rule.specs.declared.Table.the-variants.{Distances, Downstreams, 
 use Rattle.hop_rule.specs.Rule as rule
 use Rattle.hop_rule.specs.Stored.{nodes, read}
 use Rattle.hop_rule.specs.Records.{recordOf, statusRecord, written}
-use Rattle.hop_rule.specs.Calls.{distance, downstream, queueLength, totalQueued, status, judge, refusals, onState, noNode, oneNode, short, recorded, done, outcome}
+use Rattle.hop_rule.specs.Calls.{Call, distance, downstream, queueLength, totalQueued, status, judge, refusals, onState, noNode, short, done, outcome}
 use Rattle.hop_laws.specs.Fine.{Fine}
 use Rattle.hop_laws.proofs.Calls.{judge-none, state-fine}
 use Rattle.hop_laws.proofs.Records.{length-status}
@@ -24,17 +24,21 @@ use Rattle.hop_ask.specs.declared.Answer.the-variants.{Value}
 use Rattle.hop_ask.specs.Answers.{asked}
 
 module _ (s : List ℕ) (a b : ℕ) {c : ℕ} (z : c ≡ 0) {n : ℕ} (claim : n ≡ nodes s) {x : ℕ} where
+  -- Common to the three: what the code read is what the call answers.
+  read-asked : (k : Call) {y : ℕ} → c ≡ judge (refusals k s []) → asked (Value y) s [] ≡ done k s [] → x ≡ y → asked (Value x) s [] ≡ outcome k s []
+  read-asked k e answer h = ap (λ v. asked (Value v) s []) h ∙ answer ∙ call-done k s [] e z
+
   pub distance-asked : c ≡ judge (refusals (distance a b) s []) → x ≡ get2 n Distances a b s → asked (Value x) s [] ≡ outcome (distance a b) s []
   unfolding done
-  distance-asked e h = ap (λ k. asked (Value k) s []) (h ∙ distance-read s claim a b) ∙ call-done (distance a b) s [] e z
+  distance-asked e h = read-asked (distance a b) e refl (h ∙ distance-read s claim a b)
 
   pub downstream-asked : c ≡ judge (refusals (downstream a b) s []) → x ≡ get2 n Downstreams a b s → asked (Value x) s [] ≡ outcome (downstream a b) s []
   unfolding done
-  downstream-asked e h = ap (λ k. asked (Value k) s []) (h ∙ downstream-read s claim a b) ∙ call-done (downstream a b) s [] e z
+  downstream-asked e h = read-asked (downstream a b) e refl (h ∙ downstream-read s claim a b)
 
   pub length-asked : c ≡ judge (refusals (queueLength a b) s []) → x ≡ get2 n Lengths a b s → asked (Value x) s [] ≡ outcome (queueLength a b) s []
   unfolding done
-  length-asked e h = ap (λ k. asked (Value k) s []) (h ∙ length-read s claim a b) ∙ call-done (queueLength a b) s [] e z
+  length-asked e h = read-asked (queueLength a b) e refl (h ∙ length-read s claim a b)
 
 pub total-asked : (s : List ℕ) {c : ℕ} → c ≡ judge (onState s []) → c ≡ 0 → {n x : ℕ} → n ≡ nodes s → x ≡ runs.queued n s → asked (Value x) s [] ≡ outcome totalQueued s []
 unfolding refusals done
@@ -53,16 +57,20 @@ pub record Counted (s : List ℕ) (n u for from reached total : ℕ) : Type 0 wh
 module _ (s out : List ℕ) (u : ℕ) {c : ℕ} (e : c ≡ judge (refusals (status u) s out)) (z : c ≡ 0) where
   pub status-fine : Fine s
   unfolding refusals
-  status-fine = fine-known s (noNode s u ∷ short out 14 ∷ []) e z
+  status-fine = fine-known s _ e z
 
   pub status-node : u < nodes s
   unfolding refusals
-  status-node = node-known s (short out 14 ∷ []) u e z
+  status-node = node-known s _ u e z
+
+  -- So the code may count for node u.
+  pub status-counts : {n : ℕ} → n ≡ nodes s → Room n s × (u < n)
+  status-counts claim = (fine-room status-fine claim, omega (arith, status-node, claim))
 
   status-room : 14 ≤ length out
   unfolding refusals
   status-room =
-      let rows = judge-none (noNode s u) (short out 14 ∷ []) (omega arith) (state-fine s (noNode s u ∷ short out 14 ∷ []) (sym e ∙ z) .1) in
+      let rows = judge-none (noNode s u) (short out 14 ∷ []) (omega arith) (state-fine s _ (sym e ∙ z) .1) in
       ltb-false (length out) 14 (judge-none (short out 14) [] (omega arith) (rows .1) .0)
 
   module _ {n for from reached total : ℕ} (h : Counted s n u for from reached total) where

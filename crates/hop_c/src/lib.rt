@@ -7,11 +7,14 @@ use hop_core::PassAnswer;
 use hop_core::RunAnswer;
 use hop_reader::read_from;
 use hop_records::Written;
+use hop_records::write_none;
+use hop_records::write_one;
+use hop_records::write_two;
 use hop_rule::Event;
 use hop_rule::Reading;
 ghost use mathlib.Core.Path.{_≡_};
 ghost use mathlib.Core.List.{List, []};
-ghost use Prim.Native.Nat.{ℕ, _≤_};
+ghost use Prim.Native.Nat.{ℕ};
 ghost use Rattle.hop_rule.specs.Calls as call;
 ghost use Rattle.hop_rule.specs.Calls.{outcome};
 ghost use Rattle.hop_rule.specs.Records.{readEvent};
@@ -81,16 +84,11 @@ fn plain_run(a: RunAnswer) -> HopRan
     }
 }
 
-// An event's record has at most 8 bytes.
 fn plain_written(w: Written) -> HopAnswer
-    requires { ⌜ outcomeOf w [] .value ≤ 8 ⌝ }
     ensures { λ r. ⌜ ((out : List ℕ) → asked r [] out ≡ outcomeOf w out) ⌝ }
 {
     match w {
-        Written::Bytes(k) => HopAnswer {
-            code: 0,
-            value: k as u32,
-        },
+        Written::Bytes(k) => HopAnswer { code: 0, value: k },
         Written::Refused(c) => HopAnswer { code: c, value: 0 },
     }
 }
@@ -150,12 +148,6 @@ fn plain_reading(a: Reading) -> HopEvent
             second: 0,
         },
     }
-}
-
-fn write_known(e: Event, out: &mut [u8]) -> HopAnswer
-    ensures { λ r. ⌜ asked r [] (now (out .exit)) ≡ outcome (call.writeEvent e) [] (now (out .entry)) ⌝ }
-{
-    plain_written(hop_records::write_event(e, out))
 }
 
 // The bytes of a state of n nodes; 0 unless n is 1 to 40. Never refuses.
@@ -263,14 +255,20 @@ pub extern "C" fn hop_status(state: &[u8], node: usize, out: &mut [u8]) -> HopAn
 pub extern "C" fn hop_write_event(kind: u32, first: u16, second: u16, out: &mut [u8]) -> HopAnswer
     ensures { λ r. ⌜ asked r [] (now (out .exit)) ≡ wroteEvent kind first second (now (out .entry)) ⌝ }
 {
-    match kind {
-        15 => write_known(Event::Make(first), out),
-        16 => write_known(Event::Up(first, second), out),
-        17 => write_known(Event::Down(first, second), out),
-        18 => write_known(Event::Deliver(first, second), out),
-        19 => write_known(Event::Pass, out),
-        _ => HopAnswer { code: 10, value: 0 },
+    // The three kinds with two numbers go one way, and first: this is faster than a way for each kind.
+    if 16 <= kind {
+        if kind <= 18 {
+            return plain_written(write_two(kind as u16, first, second, out));
+        }
+        if kind == 19 {
+            return plain_written(write_none(19, out));
+        }
+        return HopAnswer { code: 10, value: 0 };
     }
+    if kind == 15 {
+        return plain_written(write_one(15, first, out));
+    }
+    HopAnswer { code: 10, value: 0 }
 }
 
 #[no_mangle]

@@ -1,20 +1,20 @@
 -- Each event's call, where no refusal applies: the bytes that its step leaves are those of the call's outcome, by the bridge. Assumes nothing.
-use mathlib.Core.Path.{_≡_, refl, sym, ap, _∙_}
+use mathlib.Core.Path.{_≡_, sym, ap, _∙_}
 use mathlib.Core.List.{List, [], _∷_}
-use Prim.Native.Nat.{ℕ, _<_, _≤_}
+use Prim.Native.Nat.{ℕ, _≤_}
 use native.Mathlib.Decide.{ℕ-discrete}
 use native.Mathlib.Omega.{arith}
 use lib.ListN.{length}
 use borrow.Author.Tests.{ltb-false}
-use Rattle.hop_rule.specs.Stored.{size, nodes, read}
-use Rattle.hop_rule.specs.Calls.{make, check, up, down, deliver, pass, run, judge, refusals, onState, noNode, oneNode, isUp, isDown, nothingWaits, badCount, short, done, outcome}
+use Rattle.hop_rule.specs.Stored.{size, nodes}
+use Rattle.hop_rule.specs.Calls.{Call, make, check, up, down, deliver, pass, run, judge, refusals, onState, badCount, short, done, outcome}
 use Rattle.hop_laws.specs.Fine.{Fine}
 use Rattle.hop_laws.proofs.Calls.{judge-none, good-count}
 use Rattle.hop_steps.specs.Steps as step
 use Rattle.hop_runs.specs.declared.Ran.{Ran}
 use Rattle.hop_runs.specs.Runs as runs
 use Rattle.hop_bridge.proofs.Top.{make-stored, deliver-stored, linkUp-stored, linkDown-stored, pass-stored, queued-read, run-stored, ran-read}
-use Rattle.hop_judge.proofs.Known.{fine-known, node-known, second-known}
+use Rattle.hop_judge.proofs.Known.{fine-known, ends-known}
 use Rattle.hop_judge.proofs.Done.{call-refused, call-done}
 use Rattle.hop_core.specs.declared.PassAnswer.the-variants.{Delivered}
 use Rattle.hop_core.specs.declared.RunAnswer.the-variants.{Made}
@@ -48,26 +48,27 @@ module _ (s : List ℕ) (n : ℕ) {c : ℕ} (e : c ≡ judge (refusals (make n) 
 -- ---- the events between two nodes
 
 module _ (s : List ℕ) (a b : ℕ) {c : ℕ} (z : c ≡ 0) {n : ℕ} (claim : n ≡ nodes s) {t : List ℕ} where
+  -- Common to the three: where the step leaves what the call does, the answer is 0.
+  step-done : (k : Call) (next : ℕ → List ℕ) → c ≡ judge (refusals k s []) → told 0 (next (nodes s)) ≡ done k s [] → t ≡ next n → told 0 t ≡ outcome k s []
+  step-done k next e left h = ap (told 0) (h ∙ ap next claim) ∙ left ∙ call-done k s [] e z
+
   pub up-done : c ≡ judge (refusals (up a b) s []) → t ≡ step.linkUp n a b s → told 0 t ≡ outcome (up a b) s []
   unfolding refusals done
-  up-done e h =
-      let more = oneNode a b ∷ isUp s a b ∷ [] in
-      let left = linkUp-stored s (fine-known s (noNode s a ∷ noNode s b ∷ more) e z) a b (node-known s (noNode s b ∷ more) a e z) (second-known s more a b e z) in
-      ap (told 0) (h ∙ ap (λ m. step.linkUp m a b s) claim ∙ left) ∙ call-done (up a b) s [] e z
+  up-done e =
+      let (fine, la, lb) = ends-known s a b _ e z in
+      step-done (up a b) (λ m. step.linkUp m a b s) e (ap (told 0) (linkUp-stored s fine a b la lb))
 
   pub down-done : c ≡ judge (refusals (down a b) s []) → t ≡ step.linkDown n a b s → told 0 t ≡ outcome (down a b) s []
   unfolding refusals done
-  down-done e h =
-      let more = oneNode a b ∷ isDown s a b ∷ [] in
-      let left = linkDown-stored s (fine-known s (noNode s a ∷ noNode s b ∷ more) e z) a b (node-known s (noNode s b ∷ more) a e z) (second-known s more a b e z) in
-      ap (told 0) (h ∙ ap (λ m. step.linkDown m a b s) claim ∙ left) ∙ call-done (down a b) s [] e z
+  down-done e =
+      let (fine, la, lb) = ends-known s a b _ e z in
+      step-done (down a b) (λ m. step.linkDown m a b s) e (ap (told 0) (linkDown-stored s fine a b la lb))
 
   pub deliver-done : c ≡ judge (refusals (deliver a b) s []) → t ≡ step.deliver n a b s → told 0 t ≡ outcome (deliver a b) s []
   unfolding refusals done
-  deliver-done e h =
-      let more = oneNode a b ∷ isDown s a b ∷ nothingWaits s a b ∷ [] in
-      let left = deliver-stored s (fine-known s (noNode s a ∷ noNode s b ∷ more) e z) a b (node-known s (noNode s b ∷ more) a e z) (second-known s more a b e z) in
-      ap (told 0) (h ∙ ap (λ m. step.deliver m a b s) claim ∙ left) ∙ call-done (deliver a b) s [] e z
+  deliver-done e =
+      let (fine, la, lb) = ends-known s a b _ e z in
+      step-done (deliver a b) (λ m. step.deliver m a b s) e (ap (told 0) (deliver-stored s fine a b la lb))
 
 -- ---- pass and run
 

@@ -1,15 +1,19 @@
 -- How the code's tests meet the list of refusals: what the first of them refuse is refused; where none of them applies, the next decides. Assumes nothing.
-use mathlib.Core.Path.{_≡_, refl, sym, ap, _∙_}
+use mathlib.Core.Path.{_≡_, sym, ap, _∙_}
 use mathlib.Core.Logic.{_≢_, _⊎_}
 use mathlib.Core.Bool.{Bool, true, false, not}
 use mathlib.Core.List.{List, [], _∷_, _++_}
 use Prim.Native.Nat.{ℕ, _≤_, _<_}
-use borrow.Author.Tests.{eq-eqb, ne-eqb, lt-ltb, le-ltb}
+use lib.Dec.{leb}
 use lib.ListN.{length}
+use borrow.Author.Tests.{eq-eqb, ne-eqb, lt-ltb, le-ltb, lt-leb, le-leb}
+use Rattle.hop_rule.specs.declared.Table.the-variants.{Links, Lengths}
 use Rattle.hop_rule.specs.Stored.{size, nodes}
 use Rattle.hop_rule.specs.Sound.{isSoundBytes}
-use Rattle.hop_rule.specs.Calls.{Refusal, judge, empty, badCount, short, notSound, onState}
+use Rattle.hop_rule.specs.Calls.{Refusal, judge, empty, badCount, short, notSound, noNode, isUp, nothingWaits, onState}
 use Rattle.hop_laws.proofs.Calls.{judge-applies, judge-next, judge-first, judge-passed, Numbered, tells-bad-count, count-good}
+use Rattle.hop_cells.specs.Cells.{get2}
+use Rattle.hop_cells.proofs.Read.{link-read, length-read}
 
 module _ (rs : List Refusal) {c : ℕ} (e : c ≡ judge rs) where
   pub refused-already : (more : List Refusal) → c ≢ 0 → c ≡ judge (rs ++ more)
@@ -60,3 +64,28 @@ module _ (s : List ℕ) (some : length s ≢ 0) {n : ℕ} (claim : n ≡ nodes s
       pub sound-state : b ≡ true → 0 ≡ judge (onState s [])
       unfolding judge
       sound-state e = sym (judge-next (notSound s) [] (ap not (sym judged ∙ e))) ∙ last
+
+-- ---- the refusals after them, by what the code read: n is the first byte, handed in
+
+module _ (s : List ℕ) {n : ℕ} (claim : n ≡ nodes s) where
+  -- A node number is compared with n.
+  pub no-node : (a : ℕ) → n ≤ a → noNode s a .applies ≡ true
+  no-node a l = ap (λ m. leb m a) (sym claim) ∙ le-leb _ _ l
+
+  pub is-node : (a : ℕ) → a < n → noNode s a .applies ≡ false
+  is-node a l = ap (λ m. leb m a) (sym claim) ∙ lt-leb _ _ l
+
+  module _ (a b : ℕ) {x : ℕ} where
+    -- A link's byte is 1 where it is up. That it is down is the same test, turned round.
+    pub link-up : x ≡ get2 n Links a b s → x ≡ 1 → isUp s a b .applies ≡ true
+    link-up byte e = eq-eqb _ _ (sym (byte ∙ link-read s claim a b) ∙ e)
+
+    pub link-down : x ≡ get2 n Links a b s → x ≢ 1 → isUp s a b .applies ≡ false
+    link-down byte f = ne-eqb _ _ (λ e. f (byte ∙ link-read s claim a b ∙ e))
+
+    -- A queue's length byte is 0 where nothing waits.
+    pub none-waits : x ≡ get2 n Lengths a b s → x ≡ 0 → nothingWaits s a b .applies ≡ true
+    none-waits byte e = eq-eqb _ _ (sym (byte ∙ length-read s claim a b) ∙ e)
+
+    pub some-wait : x ≡ get2 n Lengths a b s → x ≢ 0 → nothingWaits s a b .applies ≡ false
+    some-wait byte f = ne-eqb _ _ (λ e. f (byte ∙ length-read s claim a b ∙ e))

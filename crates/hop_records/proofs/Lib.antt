@@ -1,2 +1,2 @@
-mod Known
-mod Stores
+mod Heads
+pub mod Stores

@@ -2,6 +2,7 @@
 use hop_rule::Event;
 use hop_rule::Reading;
 ghost use mathlib.Core.Path.{_≡_};
+ghost use mathlib.Core.Bool.{true};
 ghost use mathlib.Core.List.{[], _∷_};
 ghost use Prim.Native.Nat.{_+_, _<_, _≤_};
 ghost use lib.ListN.{length};
@@ -12,7 +13,7 @@ ghost use Rattle.hop_records.specs.Writing.{outcomeOf, tried};
 
 // What writing a record gives: the bytes written, or the number of the refusal.
 pub enum Written {
-    Bytes(usize),
+    Bytes(u32),
     Refused(u32),
 }
 
@@ -34,8 +35,8 @@ fn write_pair(out: &mut [u8], at: usize, x: u16, y: u16)
     write_word(out, at + 2, y);
 }
 
-// A record whose body has no number, one, or two.
-fn write_none(kind: u16, out: &mut [u8]) -> Written
+// A record of a kind whose body has no number, one, or two.
+pub fn write_none(kind: u16, out: &mut [u8]) -> Written
     ensures { λ r. ⌜ outcomeOf r (now (out .exit)) ≡ tried (recordOf kind []) (now (out .entry)) ⌝ }
 {
     if out.len() < 4 {
@@ -45,7 +46,7 @@ fn write_none(kind: u16, out: &mut [u8]) -> Written
     Written::Bytes(4)
 }
 
-fn write_one(kind: u16, a: u16, out: &mut [u8]) -> Written
+pub fn write_one(kind: u16, a: u16, out: &mut [u8]) -> Written
     ensures { λ r. ⌜ outcomeOf r (now (out .exit)) ≡ tried (recordOf kind (a ∷ [])) (now (out .entry)) ⌝ }
 {
     if out.len() < 6 {
@@ -56,7 +57,7 @@ fn write_one(kind: u16, a: u16, out: &mut [u8]) -> Written
     Written::Bytes(6)
 }
 
-fn write_two(kind: u16, a: u16, b: u16, out: &mut [u8]) -> Written
+pub fn write_two(kind: u16, a: u16, b: u16, out: &mut [u8]) -> Written
     ensures { λ r. ⌜ outcomeOf r (now (out .exit)) ≡ tried (recordOf kind (a ∷ b ∷ [])) (now (out .entry)) ⌝ }
 {
     if out.len() < 8 {
@@ -106,15 +107,6 @@ fn word_at(s: &[u8], at: usize) -> u16
     s[at] as u16 + 256 * (s[at + 1] as u16)
 }
 
-fn is_known(kind: u16) -> bool
-    ensures { λ r. ⌜ r ≡ known kind ⌝ }
-{
-    match kind {
-        15..=19 => true,
-        _ => false,
-    }
-}
-
 fn length_of(kind: u16) -> u16
     ensures { λ r. ⌜ r ≡ lengthOf kind ⌝ }
 {
@@ -139,38 +131,52 @@ fn event_at(kind: u16, s: &[u8], at: usize) -> Event
     }
 }
 
+// Reading a record of a known kind, which tells its length and so the next place.
+fn read_known(kind: u16, s: &[u8], place: usize) -> Reading
+    requires { ⌜ (place + 4 ≤ length (now s)) × (wordAt (now s) (place + 2) ≡ kind) × (known kind ≡ true) ⌝ }
+    ensures { λ r. ⌜ r ≡ readEvent (now (s .entry)) place ⌝ }
+{
+    let size = length_of(kind);
+    if word_at(s, place) == size {
+        if size as usize + 2 <= s.len() - place {
+            Reading::Found(event_at(kind, s, place + 4), place + 2 + size as usize)
+        } else {
+            Reading::Refused(9)
+        }
+    } else {
+        Reading::Refused(11)
+    }
+}
+
 // Reading where at least a length and a kind are left.
 fn read_record(s: &[u8], place: usize) -> Reading
     requires { ⌜ place + 4 ≤ length (now s) ⌝ }
     ensures { λ r. ⌜ r ≡ readEvent (now (s .entry)) place ⌝ }
 {
     let kind = word_at(s, place + 2);
-    if !is_known(kind) {
-        return Reading::Refused(10);
+    match kind {
+        15 => read_known(15, s, place),
+        16 => read_known(16, s, place),
+        17 => read_known(17, s, place),
+        18 => read_known(18, s, place),
+        19 => read_known(19, s, place),
+        _ => Reading::Refused(10),
     }
-    let size = word_at(s, place);
-    if size != length_of(kind) {
-        return Reading::Refused(11);
-    }
-    let next = place + 2 + size as usize;
-    if s.len() < next {
-        return Reading::Refused(9);
-    }
-    Reading::Found(event_at(kind, s, place + 4), next)
 }
 
 // Reading at any place. No test adds to the place before it is known to lie within the bytes.
 pub fn read_event(s: &[u8], place: usize) -> Reading
     ensures { λ r. ⌜ r ≡ readEvent (now (s .entry)) place ⌝ }
 {
-    if s.len() < place {
-        return Reading::Refused(9);
+    if place < s.len() {
+        if 4 <= s.len() - place {
+            read_record(s, place)
+        } else {
+            Reading::Refused(9)
+        }
+    } else if place == s.len() {
+        Reading::End
+    } else {
+        Reading::Refused(9)
     }
-    if s.len() == place {
-        return Reading::End;
-    }
-    if s.len() - place < 4 {
-        return Reading::Refused(9);
-    }
-    read_record(s, place)
 }

@@ -1,10 +1,10 @@
-use mathlib.Core.List.{[], _∷_}
-use Rattle.hop_rule.specs.Calls as call
-use Rattle.hop_judge.proofs.Done.{call-refused}
-use Rattle.hop_rule.specs.Calls.{refusals}
-use Rattle.hop_judge.proofs.Known.{fine-known, fine-room}
-use Rattle.hop_ask.proofs.Asked.{total-asked}
+-- `total_queued` meets its contract: it is refused by its number, or answers what it counts. Assumes nothing.
+use mathlib.Core.List.{[]}
 use borrow.Author.Needs.{needs}
+use Rattle.hop_rule.specs.Calls.{refusals}
+use Rattle.hop_judge.proofs.Known.{fine-room, fine-known}
+use Rattle.hop_judge.proofs.Done.{call-refused}
+use Rattle.hop_ask.proofs.Asked.{total-asked}
 use Rattle.hop_ask.proofs.total_queued.Statement.{statement}
 use Rattle.hop_ask.proofs.total_queued.Tie as tie
 
@@ -13,7 +13,7 @@ judge-state-requires c κs = search needs
 
 returns : tie.Need-returns
 unfolding refusals
-returns c = call-refused call.totalQueued (c .before .before .before .args .s .now) [] (c .before .judge-state .ensures) (c .if1 .taken)
+returns c = call-refused _ _ _ (c .before .judge-state .ensures) (c .if1 .taken)
 
 shared-slice-read-wide : tie.Need-shared-slice-read-wide
 shared-slice-read-wide c = fine-known (c .before .before .before .before .args .s .now) [] (c .before .before .judge-state .ensures) (c .before .if1 .left) .some
@@ -22,13 +22,16 @@ wide-requires : tie.Need-wide-requires
 wide-requires c κs = search needs
 
 queued-requires : tie.Need-queued-requires
-queued-requires c κs = fine-room (fine-known (c .before .before .before .before .before .args .s .now) [] (c .before .before .before .judge-state .ensures) (c .before .before .if1 .left)) (c .wide .ensures .0)
+queued-requires c κs = fine-room (fine-known _ [] (c .before .before .before .judge-state .ensures) (c .before .before .if1 .left)) (c .wide .ensures .0)
 
 cast-t8 : tie.Need-cast-t8
 cast-t8 c = search needs
 
 returns-2 : tie.Need-returns-2
-returns-2 c = total-asked (c .before .before .before .before .before .before .args .s .now) (c .before .before .before .before .judge-state .ensures) (c .before .before .before .if1 .left) (c .before .wide .ensures .0) (c .queued .ensures .0)
+returns-2 c =
+    let at-wide = c .before in
+    let at-if1 = at-wide .before .before in
+    total-asked _ (at-if1 .before .judge-state .ensures) (at-if1 .if1 .left) (at-wide .wide .ensures .0) (c .queued .ensures .0)
 
 pub total-queued-spec : {M : Type 1} → statement M
 total-queued-spec =

@@ -1,8 +1,4 @@
 -- `hop_c::plain_written` meets its contract: each arm knows what was written. Assumes nothing.
-use mathlib.Core.Path.{ap}
-use mathlib.Core.List.{[]}
-use native.Mathlib.Omega.{arith}
-use Rattle.hop_records.specs.declared.Written.{Written}
 use Rattle.hop_records.specs.Writing.{outcomeOf}
 use borrow.Author.Needs.{needs}
 use Rattle.hop_c.proofs.plain_written.Statement.{statement}
@@ -10,10 +6,6 @@ use Rattle.hop_c.proofs.plain_written.Tie as tie
 
 enum-known-w : tie.Need-enum-known-w
 enum-known-w c = search needs
-
-cast-t5 : tie.Need-cast-t5
-unfolding outcomeOf
-cast-t5 c = omega (arith, ap (λ (w : Written). outcomeOf w [] .value) (c .before .w .given .1))
 
 enum-known-w-2 : tie.Need-enum-known-w-2
 enum-known-w-2 c = search needs
@@ -27,4 +19,4 @@ unfolding outcomeOf
 returns-2 c = λ out. rw (c .before .w2 .given .1)
 
 pub plain-written-spec : {M : Type 1} → statement M
-plain-written-spec = tie.close (tie.spec enum-known-w cast-t5 enum-known-w-2 returns returns-2)
+plain-written-spec = tie.close (tie.spec enum-known-w enum-known-w-2 returns returns-2)

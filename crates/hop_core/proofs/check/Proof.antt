@@ -1,6 +1,6 @@
-use mathlib.Core.List.{[]}
-use Rattle.hop_core.proofs.Events.{check-told}
+-- `check` meets its contract: its answer is the state's own refusal, and no byte changes. Assumes nothing.
 use borrow.Author.Needs.{needs}
+use Rattle.hop_core.proofs.Events.{check-told}
 use Rattle.hop_core.proofs.check.Statement.{statement}
 use Rattle.hop_core.proofs.check.Tie as tie
 

@@ -1,8 +1,7 @@
-use mathlib.Core.List.{[], _∷_}
-use Rattle.hop_judge.proofs.Done.{call-refused}
-use Rattle.hop_rule.specs.Calls as call
-use Rattle.hop_core.proofs.Events.{make-room, make-done}
+-- `make` meets its contract: it is refused by its number, or there is room and the bytes made are the outcome's. Assumes nothing.
 use borrow.Author.Needs.{needs}
+use Rattle.hop_judge.proofs.Done.{call-refused}
+use Rattle.hop_core.proofs.Events.{make-room, make-done}
 use Rattle.hop_core.proofs.make.Statement.{statement}
 use Rattle.hop_core.proofs.make.Tie as tie
 
@@ -13,23 +12,21 @@ same-length : tie.Need-same-length
 same-length c = search needs
 
 returns : tie.Need-returns
-returns c =
-    let at = c .before .before .before .before .args in
-    call-refused (call.make (at .n)) (at .s .now) [] (c .before .judge-make .ensures) (c .if1 .taken)
+returns c = call-refused _ _ _ (c .before .judge-make .ensures) (c .if1 .taken)
 
 make-requires : tie.Need-make-requires
 make-requires c κs =
-    let at = c .before .before .before .before .before .args in
-    let room = make-room (at .s .now) (at .n) (c .before .before .judge-make .ensures) (c .before .if1 .left) in
-    record { most = room .0; fits = room .1 }
+    let (most, fits) = make-room _ _ (c .before .before .judge-make .ensures) (c .before .if1 .left) in
+    record { most = most; fits = fits }
 
 same-length-2 : tie.Need-same-length-2
 same-length-2 c = search needs
 
 returns-2 : tie.Need-returns-2
 returns-2 c =
-    let at = c .before .before .before .before .before .before .before .before .args in
-    make-done (at .s .now) (at .n) (c .before .before .before .before .before .judge-make .ensures) (c .before .before .before .before .if1 .left) (c .before .before .make .ensures)
+    let at-make = c .before .before in
+    let at-if1 = at-make .before .before in
+    make-done _ _ (at-if1 .before .judge-make .ensures) (at-if1 .if1 .left) (at-make .make .ensures)
 
 pub make-spec : {M : Type 1} → statement M
 make-spec =

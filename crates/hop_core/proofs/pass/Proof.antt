@@ -1,10 +1,10 @@
-use mathlib.Core.List.{[], _∷_}
-use Rattle.hop_judge.proofs.Done.{call-refused}
-use Rattle.hop_rule.specs.Calls as call
-use Rattle.hop_rule.specs.Calls.{refusals}
-use Rattle.hop_judge.proofs.Known.{fine-known, fine-room}
-use Rattle.hop_core.proofs.Events.{pass-done}
+-- `pass` meets its contract: it is refused by its number, or what waited is delivered and the pass's bytes are the outcome's. Assumes nothing.
+use mathlib.Core.List.{[]}
 use borrow.Author.Needs.{needs}
+use Rattle.hop_rule.specs.Calls.{refusals}
+use Rattle.hop_judge.proofs.Known.{fine-room, fine-known}
+use Rattle.hop_judge.proofs.Done.{call-refused}
+use Rattle.hop_core.proofs.Events.{pass-done}
 use Rattle.hop_core.proofs.pass.Statement.{statement}
 use Rattle.hop_core.proofs.pass.Tie as tie
 
@@ -16,7 +16,7 @@ same-length c = search needs
 
 returns : tie.Need-returns
 unfolding refusals
-returns c = call-refused call.pass (c .before .before .before .before .args .s .now) [] (c .before .judge-state .ensures) (c .if1 .taken)
+returns c = call-refused _ _ _ (c .before .judge-state .ensures) (c .if1 .taken)
 
 slice-read-wide : tie.Need-slice-read-wide
 slice-read-wide c = fine-known (c .before .before .before .before .before .args .s .now) [] (c .before .before .judge-state .ensures) (c .before .if1 .left) .some
@@ -25,10 +25,10 @@ wide-requires : tie.Need-wide-requires
 wide-requires c κs = search needs
 
 queued-requires : tie.Need-queued-requires
-queued-requires c κs = fine-room (fine-known (c .before .before .before .before .before .before .before .args .s .now) [] (c .before .before .before .before .judge-state .ensures) (c .before .before .before .if1 .left)) (c .before .wide .ensures .0)
+queued-requires c κs = fine-room (fine-known _ [] (c .before .before .before .before .judge-state .ensures) (c .before .before .before .if1 .left)) (c .before .wide .ensures .0)
 
 pass-requires : tie.Need-pass-requires
-pass-requires c κs = fine-room (fine-known (c .before .before .before .before .before .before .before .before .before .args .s .now) [] (c .before .before .before .before .before .before .judge-state .ensures) (c .before .before .before .before .before .if1 .left)) (c .before .before .before .wide .ensures .0)
+pass-requires c κs = queued-requires (c .before .before) κs
 
 cast-t15 : tie.Need-cast-t15
 cast-t15 c = search needs
@@ -37,7 +37,12 @@ same-length-2 : tie.Need-same-length-2
 same-length-2 c = search needs
 
 returns-2 : tie.Need-returns-2
-returns-2 c = pass-done (c .before .before .before .before .before .before .before .before .before .before .before .before .args .s .now) (c .before .before .before .before .before .before .before .before .before .judge-state .ensures) (c .before .before .before .before .before .before .before .before .if1 .left) (c .before .before .before .before .before .before .wide .ensures .0) (c .before .before .before .before .queued .ensures .0) (c .before .before .pass .ensures)
+returns-2 c =
+    let at-pass = c .before .before in
+    let at-queued = at-pass .before .before in
+    let at-wide = at-queued .before .before in
+    let at-if1 = at-wide .before .before in
+    pass-done _ (at-if1 .before .judge-state .ensures) (at-if1 .if1 .left) (at-wide .wide .ensures .0) (at-queued .queued .ensures .0) (at-pass .pass .ensures)
 
 pub pass-spec : {M : Type 1} → statement M
 pass-spec =

@@ -1,13 +1,11 @@
-use mathlib.Core.List.{[], _∷_}
-use Rattle.hop_judge.proofs.Done.{call-refused}
-use Rattle.hop_rule.specs.Calls as call
-use Rattle.hop_rule.specs.Calls.{refusals}
-use Rattle.hop_judge.proofs.Known.{fine-known, fine-room}
+-- `run` meets its contract: it is refused by its number, or the passes made under the allowance are the outcome's. Assumes nothing.
+use mathlib.Core.List.{[]}
 use native.Mathlib.Omega.{arith}
-use Rattle.hop_core.proofs.Events.{run-done}
-use Rattle.hop_runs.specs.Runs as runs
-use mathlib.Core.Path.{ap, _∙_}
 use borrow.Author.Needs.{needs}
+use Rattle.hop_rule.specs.Calls.{refusals}
+use Rattle.hop_judge.proofs.Known.{fine-room, fine-known}
+use Rattle.hop_judge.proofs.Done.{call-refused}
+use Rattle.hop_core.proofs.Events.{run-done}
 use Rattle.hop_core.proofs.run.Statement.{statement}
 use Rattle.hop_core.proofs.run.Tie as tie
 
@@ -19,9 +17,7 @@ same-length c = search needs
 
 returns : tie.Need-returns
 unfolding refusals
-returns c =
-    let at = c .before .before .before .before .args in
-    call-refused (call.run (at .allowance)) (at .s .now) [] (c .before .judge-state .ensures) (c .if1 .taken)
+returns c = call-refused _ _ _ (c .before .judge-state .ensures) (c .if1 .taken)
 
 slice-read-wide : tie.Need-slice-read-wide
 slice-read-wide c = fine-known (c .before .before .before .before .before .args .s .now) [] (c .before .before .judge-state .ensures) (c .before .if1 .left) .some
@@ -33,15 +29,22 @@ count-requires : tie.Need-count-requires
 count-requires c κs = search needs
 
 run-requires : tie.Need-run-requires
-run-requires c κs = (fine-room (fine-known (c .before .before .before .before .before .before .before .before .args .s .now) [] (c .before .before .before .before .before .judge-state .ensures) (c .before .before .before .before .if1 .left)) (c .before .before .wide .ensures .0), omega arith)
+run-requires c κs =
+    let fine = fine-known _ [] (c .before .before .before .before .before .judge-state .ensures) (c .before .before .before .before .if1 .left) in
+    (fine-room fine (c .before .before .wide .ensures .0), omega arith)
 
 same-length-2 : tie.Need-same-length-2
 same-length-2 c = search needs
 
 returns-2 : tie.Need-returns-2
 returns-2 c =
-    let at = c .before .before .before .before .before .before .before .before .before .before .before .args in
-    run-done (at .s .now) (c .before .before .before .before .before .before .before .before .judge-state .ensures) (c .before .before .before .before .before .before .before .if1 .left) (at .allowance) (c .before .before .before .before .before .wide .ensures .0) (c .before .before .run .ensures .0 ∙ ap (λ k. runs.ran (c .before .before .before .before .before .wide .result) k (at .s .now)) (c .before .before .before .count .ensures .0)) (c .before .before .run .ensures .1 ∙ ap (λ k. runs.run (c .before .before .before .before .before .wide .result) k (at .s .now)) (c .before .before .before .count .ensures .0))
+    let at-run = c .before .before in
+    let at-count = at-run .before in
+    let at-wide = at-count .before .before in
+    let at-if1 = at-wide .before .before in
+    let allowed = at-count .count .ensures .0 in
+    let (did, left) = at-run .run .ensures in
+    run-done _ (at-if1 .before .judge-state .ensures) (at-if1 .if1 .left) _ (at-wide .wide .ensures .0) (rw allowed at did) (rw allowed at left)
 
 pub run-spec : {M : Type 1} → statement M
 run-spec =

@@ -1,14 +1,9 @@
-use mathlib.Core.Path.{_≡_, sym, ap, _∙_}
-use mathlib.Core.Bool.{not}
-use mathlib.Core.List.{List, [], _∷_}
+-- `judge_deliver` meets its contract: where the link is up, the queue's length byte decides, and 0 is refused. Assumes nothing.
 use native.Mathlib.Omega.{arith}
-use lib.Dec.{eqb}
-use borrow.Author.Tests.{eq-eqb, ne-eqb, lt-ltb, le-ltb}
-use Rattle.hop_rule.specs.Calls.{onState, noNode, oneNode, isUp, isDown, nothingWaits, short, refusals}
-use Rattle.hop_cells.proofs.Read.{link-read, length-read}
-use Rattle.hop_judge.proofs.Judging.{refused-already, refused-next, passed-next}
-use Rattle.hop_judge.proofs.Known.{fine-known, fine-room, node-known, second-known}
 use borrow.Author.Needs.{needs}
+use Rattle.hop_rule.specs.Calls.{refusals}
+use Rattle.hop_judge.proofs.Judging.{refused-already, refused-next, passed-next, none-waits, some-wait}
+use Rattle.hop_judge.proofs.Known.{fine-known, cell-ready}
 use Rattle.hop_judge.proofs.judge_deliver.Statement.{statement}
 use Rattle.hop_judge.proofs.judge_deliver.Tie as tie
 
@@ -17,39 +12,32 @@ judge-down-requires c κs = search needs
 
 returns : tie.Need-returns
 unfolding refusals
-returns c =
-    let at = c .before .before .before .args in
-    refused-already (onState (at .s .now) (noNode (at .s .now) (at .w) ∷ noNode (at .s .now) (at .u) ∷ oneNode (at .w) (at .u) ∷ isDown (at .s .now) (at .w) (at .u) ∷ [])) (c .before .judge-down .ensures) _ (c .if1 .taken)
+returns c = refused-already _ (c .before .judge-down .ensures) _ (c .if1 .taken)
 
 shared-slice-read-wide : tie.Need-shared-slice-read-wide
 unfolding refusals
-shared-slice-read-wide c =
-    let at = c .before .before .before .before .args in
-    fine-known (at .s .now) (noNode (at .s .now) (at .w) ∷ noNode (at .s .now) (at .u) ∷ oneNode (at .w) (at .u) ∷ isDown (at .s .now) (at .w) (at .u) ∷ []) (c .before .before .judge-down .ensures) (c .before .if1 .left) .some
+shared-slice-read-wide c = fine-known (c .before .before .before .before .args .s .now) _ (c .before .before .judge-down .ensures) (c .before .if1 .left) .some
 
 wide-requires : tie.Need-wide-requires
 wide-requires c κs = search needs
 
 get2-requires : tie.Need-get2-requires
 unfolding refusals
-get2-requires c κs =
-    let at = c .before .before .before .before .before .args in
-    let f = fine-known (at .s .now) (noNode (at .s .now) (at .w) ∷ noNode (at .s .now) (at .u) ∷ oneNode (at .w) (at .u) ∷ isDown (at .s .now) (at .w) (at .u) ∷ []) (c .before .before .before .judge-down .ensures) (c .before .before .if1 .left) in
-    let la = node-known (at .s .now) (noNode (at .s .now) (at .u) ∷ oneNode (at .w) (at .u) ∷ isDown (at .s .now) (at .w) (at .u) ∷ []) (at .w) (c .before .before .before .judge-down .ensures) (c .before .before .if1 .left) in
-    let lb = second-known (at .s .now) (oneNode (at .w) (at .u) ∷ isDown (at .s .now) (at .w) (at .u) ∷ []) (at .w) (at .u) (c .before .before .before .judge-down .ensures) (c .before .before .if1 .left) in
-    (fine-room f (c .wide .ensures .0), omega arith, omega arith, omega arith)
+get2-requires c κs = cell-ready _ _ _ _ (c .before .before .before .judge-down .ensures) (c .before .before .if1 .left) (c .wide .ensures .0)
 
 returns-2 : tie.Need-returns-2
 unfolding refusals
 returns-2 c =
-    let at = c .before .before .before .before .before .before .before .args in
-    refused-next (onState (at .s .now) (noNode (at .s .now) (at .w) ∷ noNode (at .s .now) (at .u) ∷ oneNode (at .w) (at .u) ∷ isDown (at .s .now) (at .w) (at .u) ∷ [])) (c .before .before .before .before .before .judge-down .ensures) (nothingWaits (at .s .now) (at .w) (at .u)) (omega arith) (c .before .before .before .before .if1 .left) (eq-eqb _ _ (sym (c .before .get2 .ensures .0 ∙ length-read (at .s .now) (c .before .before .wide .ensures .0) (at .w) (at .u)) ∙ c .if2 .taken))
+    let at-if1 = c .before .before .before .before in
+    let test = none-waits _ (c .before .before .wide .ensures .0) _ _ (c .before .get2 .ensures .0) (c .if2 .taken) in
+    refused-next _ (at-if1 .before .judge-down .ensures) _ (omega arith) (at-if1 .if1 .left) test
 
 returns-3 : tie.Need-returns-3
 unfolding refusals
 returns-3 c =
-    let at = c .before .before .before .before .before .before .before .args in
-    passed-next (onState (at .s .now) (noNode (at .s .now) (at .w) ∷ noNode (at .s .now) (at .u) ∷ oneNode (at .w) (at .u) ∷ isDown (at .s .now) (at .w) (at .u) ∷ [])) (c .before .before .before .before .before .judge-down .ensures) (nothingWaits (at .s .now) (at .w) (at .u)) (omega arith) (c .before .before .before .before .if1 .left) (ne-eqb _ _ (λ e. c .if2 .left ((c .before .get2 .ensures .0 ∙ length-read (at .s .now) (c .before .before .wide .ensures .0) (at .w) (at .u)) ∙ e)))
+    let at-if1 = c .before .before .before .before in
+    let test = some-wait _ (c .before .before .wide .ensures .0) _ _ (c .before .get2 .ensures .0) (c .if2 .left) in
+    passed-next _ (at-if1 .before .judge-down .ensures) _ (omega arith) (at-if1 .if1 .left) test
 
 pub judge-deliver-spec : {M : Type 1} → statement M
 judge-deliver-spec =

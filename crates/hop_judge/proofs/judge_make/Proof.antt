@@ -1,19 +1,20 @@
+-- `judge_make` meets its contract: it refuses a count that is not 1 to 40, then a buffer with no room for as many nodes. Assumes nothing.
 use mathlib.Core.Logic.{inl, inr}
 use mathlib.Core.List.{[]}
 use native.Mathlib.Omega.{arith}
+use borrow.Author.Needs.{needs}
 use Rattle.hop_rule.specs.Calls.{judge, refusals}
 use Rattle.hop_judge.proofs.Judging.{bad-count, short-buffer, long-buffer}
-use borrow.Author.Needs.{needs}
 use Rattle.hop_judge.proofs.judge_make.Statement.{statement}
 use Rattle.hop_judge.proofs.judge_make.Tie as tie
 
 returns : tie.Need-returns
 unfolding refusals
-returns c = bad-count (c .before .before .args .n) _ (inl (c .if1 .taken))
+returns c = bad-count _ _ (inl (c .if1 .taken))
 
 returns-2 : tie.Need-returns-2
 unfolding refusals
-returns-2 c = bad-count (c .before .before .before .args .n) _ (inr (c .if2 .taken))
+returns-2 c = bad-count _ _ (inr (c .if2 .taken))
 
 size-requires : tie.Need-size-requires
 size-requires c κs = search needs

@@ -1,9 +1,9 @@
-use mathlib.Core.Path.{sym, _∙_}
+-- `judge_state` meets its contract: its five tests are the state's refusals, in their order, by the count that the first byte claims. Assumes nothing.
 use mathlib.Core.Logic.{inl, inr}
 use native.Mathlib.Omega.{arith}
 use borrow.Author.Tests.{not-true, not-false}
-use Rattle.hop_judge.proofs.Judging.{empty-state, bad-state, short-state, unsound-state, sound-state}
 use borrow.Author.Needs.{needs}
+use Rattle.hop_judge.proofs.Judging.{empty-state, bad-state, short-state, unsound-state, sound-state}
 use Rattle.hop_judge.proofs.judge_state.Statement.{statement}
 use Rattle.hop_judge.proofs.judge_state.Tie as tie
 
@@ -17,25 +17,42 @@ wide-requires : tie.Need-wide-requires
 wide-requires c κs = search needs
 
 returns-2 : tie.Need-returns-2
-returns-2 c = bad-state (c .before .before .before .before .before .args .s .now) (c .before .before .before .if1 .left) (c .before .wide .ensures .0) (inl (c .if2 .taken))
+returns-2 c =
+    let at-wide = c .before in
+    let at-if1 = at-wide .before .before in
+    bad-state (at-if1 .before .before .args .s .now) (at-if1 .if1 .left) (at-wide .wide .ensures .0) (inl (c .if2 .taken))
 
 returns-3 : tie.Need-returns-3
-returns-3 c = bad-state (c .before .before .before .before .before .before .args .s .now) (c .before .before .before .before .if1 .left) (c .before .before .wide .ensures .0) (inr (c .if3 .taken))
+returns-3 c =
+    let at-wide = c .before .before in
+    let at-if1 = at-wide .before .before in
+    bad-state (at-if1 .before .before .args .s .now) (at-if1 .if1 .left) (at-wide .wide .ensures .0) (inr (c .if3 .taken))
 
 size-requires : tie.Need-size-requires
 size-requires c κs = search needs
 
 returns-4 : tie.Need-returns-4
-returns-4 c = short-state (c .before .before .before .before .before .before .before .before .args .s .now) (c .before .before .before .before .before .before .if1 .left) (c .before .before .before .before .wide .ensures .0) (omega arith) (omega arith) (omega arith)
+returns-4 c =
+    let at-wide = c .before .before .before .before in
+    let at-if1 = at-wide .before .before in
+    short-state (at-if1 .before .before .args .s .now) (at-if1 .if1 .left) (at-wide .wide .ensures .0) (omega arith) (omega arith) (omega arith)
 
 is-sound-requires : tie.Need-is-sound-requires
 is-sound-requires c κs = search needs
 
 returns-5 : tie.Need-returns-5
-returns-5 c = unsound-state (c .before .before .before .before .before .before .before .before .before .before .args .s .now) (c .before .before .before .before .before .before .before .before .if1 .left) (c .before .before .before .before .before .before .wide .ensures .0) (omega arith) (omega arith) (omega arith) (c .before .is-sound .ensures) (not-true _ (c .if5 .taken))
+returns-5 c =
+    let at-wide = c .before .before .before .before .before .before in
+    let at-if1 = at-wide .before .before in
+    let judged = c .before .is-sound .ensures in
+    unsound-state (at-if1 .before .before .args .s .now) (at-if1 .if1 .left) (at-wide .wide .ensures .0) (omega arith) (omega arith) (omega arith) judged (not-true _ (c .if5 .taken))
 
 returns-6 : tie.Need-returns-6
-returns-6 c = sound-state (c .before .before .before .before .before .before .before .before .before .before .args .s .now) (c .before .before .before .before .before .before .before .before .if1 .left) (c .before .before .before .before .before .before .wide .ensures .0) (omega arith) (omega arith) (omega arith) (c .before .is-sound .ensures) (not-false _ (c .if5 .left))
+returns-6 c =
+    let at-wide = c .before .before .before .before .before .before in
+    let at-if1 = at-wide .before .before in
+    let judged = c .before .is-sound .ensures in
+    sound-state (at-if1 .before .before .args .s .now) (at-if1 .if1 .left) (at-wide .wide .ensures .0) (omega arith) (omega arith) (omega arith) judged (not-false _ (c .if5 .left))
 
 pub judge-state-spec : {M : Type 1} → statement M
 judge-state-spec =
