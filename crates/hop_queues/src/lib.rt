@@ -4,10 +4,14 @@ use hop_cells::get2;
 use hop_cells::get3;
 use hop_cells::put2;
 use hop_cells::put3;
+use hop_rows::none_is;
+use hop_rows::row3;
 use hop_rule::Table;
 ghost use mathlib.Core.Path.{_≡_};
 ghost use Prim.Native.Nat.{_+_, _*_, _<_, _≤_, min};
 ghost use Rattle.hop_cells.specs.Cells.{Room, cells};
+ghost use Rattle.hop_rule.specs.declared.Table.the-variants.{Destinations};
+ghost use Rattle.hop_rows.specs.Rows.{row, noneIs};
 ghost use Rattle.hop_queues.specs.Queues as queue;
 
 // Every place of a row of a block of n³ becomes x.
@@ -48,15 +52,26 @@ fn first_at(s: &[u8], n: usize, w: usize, u: usize, v: usize, m: usize) -> usize
     m
 }
 
+// Is v at none of the places below m? Quicker to find out than where it is.
+fn waits_nowhere(s: &[u8], n: usize, w: usize, u: usize, v: usize, m: usize) -> bool
+    requires { ⌜ Room n (now s) × (w < n) × (u < n) × (v < n) × (m ≤ n) ⌝ }
+    ensures { λ r. ⌜ r ≡ noneIs (now (s .entry)) (row n Destinations (w * n + u)) m v ⌝ }
+{
+    none_is(s, row3(n, Table::Destinations, w, u), m, v as u8)
+}
+
 // A place at which v waits, or m. Link up puts v at place v, so that one is looked at first.
 fn waits_at(s: &[u8], n: usize, w: usize, u: usize, v: usize, m: usize) -> usize
-    requires { ⌜ Room n (now s) × (w < n) × (u < n) × (m ≤ n) ⌝ }
+    requires { ⌜ Room n (now s) × (w < n) × (u < n) × (v < n) × (m ≤ n) ⌝ }
     ensures { λ r. ⌜ r ≡ queue.waitsAt n w u v m (now (s .entry)) ⌝ }
 {
     if v < m {
         if get3(s, n, Table::Destinations, w, u, v) == v {
             return v;
         }
+    }
+    if waits_nowhere(s, n, w, u, v, m) {
+        return m;
     }
     first_at(s, n, w, u, v, m)
 }

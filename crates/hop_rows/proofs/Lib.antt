@@ -1,3 +1,4 @@
+pub mod Inside
 pub mod Every
 pub mod ToldRows
 pub mod RowTests

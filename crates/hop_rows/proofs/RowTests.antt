@@ -50,7 +50,7 @@ module _ {s : List ℕ} {at : ℕ} {f : ℕ → ℕ} (r : Reads s at f) where
   unfolding allBelow
   tells-below k x = tells-every k (λ i l. rw (r .reads i) (tells-lt (f i) x))
 
-  tells-none : (k x : ℕ) → Tells (noneIs s at k x) ((i : ℕ) → i < k → f i ≡ x → ⊥)
+  pub tells-none : (k x : ℕ) → Tells (noneIs s at k x) ((i : ℕ) → i < k → f i ≡ x → ⊥)
   unfolding noneIs
   tells-none k x = tells-every k (λ i l. rw (r .reads i) (tells-not (tells-eq (f i) x)))
 

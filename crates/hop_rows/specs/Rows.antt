@@ -2,10 +2,16 @@
 use mathlib.Core.Bool.{Bool, not, _&&_}
 use mathlib.Core.Path.{_≡_}
 use mathlib.Core.List.{List}
-use Prim.Native.Nat.{ℕ, zero, suc, _+_, _-_, _<_}
+use Prim.Native.Nat.{ℕ, zero, suc, _+_, _*_, _-_, _<_}
 use lib.Dec.{eqb, ltb, leb}
 use lib.ListN.{length, getD}
+use Rattle.hop_rule.specs.declared.Table.{Table}
 use Rattle.hop_rule.specs.Words.{if_then_else_, every}
+use Rattle.hop_rule.specs.Stored.{start}
+
+-- Where row i of a block starts. In a block of n³ the row of a and b is a * n + b.
+abbrev pub row : ℕ → Table → ℕ → ℕ
+row n t i = start n t + i * n
 
 -- Byte i of a row.
 abbrev pub byte : List ℕ → ℕ → ℕ → ℕ

@@ -3,16 +3,10 @@ use mathlib.Core.Bool.{Bool, not, _&&_, _||_}
 use mathlib.Core.List.{List}
 use Prim.Native.Nat.{ℕ, _+_, _*_, _-_}
 use lib.Dec.{eqb, ltb, leb}
-use Rattle.hop_rule.specs.declared.Table.{Table}
 use Rattle.hop_rule.specs.declared.Table.the-variants.{Links, Distances, Downstreams, Views, Lengths, Destinations, Values}
 use Rattle.hop_rule.specs.Words.{if_then_else_, every}
-use Rattle.hop_rule.specs.Stored.{start}
 use Rattle.hop_cells.specs.Cells.{get2, get3}
-use Rattle.hop_rows.specs.Rows.{allAre, bothAre, allBelow, same, differing, allAllow, allTold}
-
--- Where row i of a block starts. In a block of n³ the row of a and b is a * n + b.
-abbrev pub row : ℕ → Table → ℕ → ℕ
-row n t i = start n t + i * n
+use Rattle.hop_rows.specs.Rows.{row, allAre, bothAre, allBelow, same, differing, allAllow, allTold}
 
 -- The link byte of u and w is 0 or 1, the same at both ends, and 0 on the diagonal.
 unfoldable pub linkSound : ℕ → List ℕ → ℕ → ℕ → Bool

@@ -2,7 +2,6 @@
 
 mod nodes;
 mod pairs;
-mod places;
 
 ghost use mathlib.Core.Path.{_≡_};
 ghost use Rattle.hop_rule.specs.Stored.{nodes};

@@ -1,7 +1,6 @@
 // What is judged of a node: its views, its pairs, its routes, and the places of the queues that it sends on.
 
 use crate::pairs;
-use crate::places;
 use hop_rule::Table;
 ghost use mathlib.Core.Path.{_≡_};
 ghost use Prim.Native.Nat.{_<_};
@@ -14,7 +13,7 @@ fn views_sound(s: &[u8], n: usize, u: usize) -> bool
     requires { ⌜ Room n (now s) × (u < n) ⌝ }
     ensures { λ r. ⌜ r ≡ check.viewsSound n (now (s .entry)) u ⌝ }
 {
-    hop_rows::all_below(s, places::block(n, Table::Views, u), n * n, n as u8 + 1)
+    hop_rows::all_below(s, hop_rows::block(n, Table::Views, u), n * n, n as u8 + 1)
 }
 
 // u's route to v: its own; or none, at distance n; or by way of an up neighbour that gives the distance.
@@ -68,8 +67,8 @@ fn past_sound(s: &[u8], n: usize, w: usize, u: usize) -> bool
     }
     hop_rows::both_are(
         s,
-        places::row3(n, Table::Destinations, w, u) + m,
-        places::row3(n, Table::Values, w, u) + m,
+        hop_rows::row3(n, Table::Destinations, w, u) + m,
+        hop_rows::row3(n, Table::Values, w, u) + m,
         n - m,
         0,
     )
@@ -92,13 +91,13 @@ fn sent_sound(s: &[u8], n: usize, w: usize) -> bool
     requires { ⌜ Room n (now s) × (w < n) ⌝ }
     ensures { λ r. ⌜ r ≡ check.sentSound n (now (s .entry)) w ⌝ }
 {
-    if !hop_rows::all_are(s, places::row2(n, Table::Lengths, w), n, 0) {
+    if !hop_rows::all_are(s, hop_rows::row2(n, Table::Lengths, w), n, 0) {
         return pasts_sound(s, n, w);
     }
     hop_rows::both_are(
         s,
-        places::block(n, Table::Destinations, w),
-        places::block(n, Table::Values, w),
+        hop_rows::block(n, Table::Destinations, w),
+        hop_rows::block(n, Table::Values, w),
         n * n,
         0,
     )

@@ -1,6 +1,5 @@
 // What is judged of two nodes u and w: their link, u's views from w, and the queue from w to u.
 
-use crate::places;
 use hop_rule::Table;
 ghost use mathlib.Core.Path.{_≡_};
 ghost use mathlib.Core.Bool.{true};
@@ -8,7 +7,7 @@ ghost use Prim.Native.Nat.{_+_, _*_, _-_, _<_, _≤_};
 ghost use Rattle.hop_rule.specs.declared.Table.the-variants.{Destinations};
 ghost use Rattle.hop_rule.specs.Words.{every};
 ghost use Rattle.hop_cells.specs.Cells.{Room};
-ghost use Rattle.hop_rows.specs.Rows.{allBelow, rising};
+ghost use Rattle.hop_rows.specs.Rows.{row, allBelow, rising};
 ghost use Rattle.hop_sound.specs.Check as check;
 
 // The link byte is 0 or 1, the same at both ends, and 0 on the diagonal.
@@ -37,7 +36,7 @@ fn down_sound(s: &[u8], n: usize, u: usize, w: usize) -> bool
     if hop_cells::get2(s, n, Table::Lengths, w, u) != 0 {
         return false;
     }
-    hop_rows::all_are(s, places::row3(n, Table::Views, u, w), n, n as u8)
+    hop_rows::all_are(s, hop_rows::row3(n, Table::Views, u, w), n, n as u8)
 }
 
 // An up link where nothing waits: u's views from w are w's distances.
@@ -47,31 +46,31 @@ fn idle_sound(s: &[u8], n: usize, u: usize, w: usize) -> bool
 {
     hop_rows::same(
         s,
-        places::row3(n, Table::Views, u, w),
-        places::row2(n, Table::Distances, w),
+        hop_rows::row3(n, Table::Views, u, w),
+        hop_rows::row2(n, Table::Distances, w),
         n,
     )
 }
 
 // An up link where m entries wait: once they are delivered, u's views from w are w's distances.
 fn told_sound(s: &[u8], n: usize, u: usize, w: usize, m: usize) -> bool
-    requires { ⌜ Room n (now s) × (u < n) × (w < n) × (m ≤ n) × (allBelow (now s) (check.row n Destinations (w * n + u)) m n ≡ true) ⌝ }
+    requires { ⌜ Room n (now s) × (u < n) × (w < n) × (m ≤ n) × (allBelow (now s) (row n Destinations (w * n + u)) m n ≡ true) ⌝ }
     ensures { λ r. ⌜ r ≡ check.toldSound n (now (s .entry)) u w m ⌝ }
 {
     hop_rows::all_told(
         s,
         n,
-        places::row3(n, Table::Views, u, w),
-        places::row2(n, Table::Distances, w),
-        places::row3(n, Table::Destinations, w, u),
-        places::row3(n, Table::Values, w, u),
+        hop_rows::row3(n, Table::Views, u, w),
+        hop_rows::row2(n, Table::Distances, w),
+        hop_rows::row3(n, Table::Destinations, w, u),
+        hop_rows::row3(n, Table::Values, w, u),
         m,
     )
 }
 
 // Ascending destinations, as link up puts them, differ, and the last is the greatest. If all n wait, each stands at its own place.
 fn ordered_sound(s: &[u8], n: usize, u: usize, w: usize, m: usize) -> bool
-    requires { ⌜ Room n (now s) × (u < n) × (w < n) × (m ≤ n) × (0 < m) × (rising (now s) (check.row n Destinations (w * n + u)) (m - 1) ≡ true) ⌝ }
+    requires { ⌜ Room n (now s) × (u < n) × (w < n) × (m ≤ n) × (0 < m) × (rising (now s) (row n Destinations (w * n + u)) (m - 1) ≡ true) ⌝ }
     ensures { λ r. ⌜ r ≡ check.busySound n (now (s .entry)) u w m ⌝ }
 {
     if n <= hop_cells::get3(s, n, Table::Destinations, w, u, m - 1) {
@@ -80,8 +79,8 @@ fn ordered_sound(s: &[u8], n: usize, u: usize, w: usize, m: usize) -> bool
     if m == n {
         return hop_rows::same(
             s,
-            places::row3(n, Table::Values, w, u),
-            places::row2(n, Table::Distances, w),
+            hop_rows::row3(n, Table::Values, w, u),
+            hop_rows::row2(n, Table::Distances, w),
             n,
         );
     }
@@ -93,7 +92,7 @@ fn mixed_sound(s: &[u8], n: usize, u: usize, w: usize, m: usize) -> bool
     requires { ⌜ Room n (now s) × (u < n) × (w < n) × (m ≤ n) ⌝ }
     ensures { λ r. ⌜ r ≡ check.busySound n (now (s .entry)) u w m ⌝ }
 {
-    let destinations = places::row3(n, Table::Destinations, w, u);
+    let destinations = hop_rows::row3(n, Table::Destinations, w, u);
     if !hop_rows::all_below(s, destinations, m, n as u8) {
         return false;
     }
@@ -107,7 +106,7 @@ fn busy_sound(s: &[u8], n: usize, u: usize, w: usize, m: usize) -> bool
     requires { ⌜ Room n (now s) × (u < n) × (w < n) × (m ≤ n) × (0 < m) ⌝ }
     ensures { λ r. ⌜ r ≡ check.busySound n (now (s .entry)) u w m ⌝ }
 {
-    if hop_rows::rising(s, places::row3(n, Table::Destinations, w, u), m - 1) {
+    if hop_rows::rising(s, hop_rows::row3(n, Table::Destinations, w, u), m - 1) {
         return ordered_sound(s, n, u, w, m);
     }
     mixed_sound(s, n, u, w, m)
@@ -135,14 +134,14 @@ fn up_sound(s: &[u8], n: usize, u: usize, w: usize) -> bool
     if !queue_sound(s, n, u, w) {
         return false;
     }
-    let views = places::row3(n, Table::Views, u, w);
+    let views = hop_rows::row3(n, Table::Views, u, w);
     hop_rows::all_allow(
         s,
         n as u8,
         w as u8,
         views,
-        places::row2(n, Table::Distances, u),
-        places::row2(n, Table::Downstreams, u),
+        hop_rows::row2(n, Table::Distances, u),
+        hop_rows::row2(n, Table::Downstreams, u),
     )
 }
 

@@ -1,11 +1,11 @@
--- `places::block` meets its contract: the rows lie inside the state. Assumes nothing.
+-- `block` meets its contract: the rows lie inside the state. Assumes nothing.
 use mathlib.Core.Path.{refl}
 use native.Mathlib.Omega.{arith}
 use borrow.Author.Needs.{needs}
 use Rattle.hop_cells.proofs.Places.{cell2-lt, square-most}
-use Rattle.hop_sound.proofs.Inside.{rows-inside}
-use Rattle.hop_sound.proofs.places.block.Statement.{statement}
-use Rattle.hop_sound.proofs.places.block.Tie as tie
+use Rattle.hop_rows.proofs.Inside.{rows-inside}
+use Rattle.hop_rows.proofs.block.Statement.{statement}
+use Rattle.hop_rows.proofs.block.Tie as tie
 
 start-requires : tie.Need-start-requires
 start-requires c κs = search needs

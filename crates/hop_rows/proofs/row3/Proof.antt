@@ -1,10 +1,10 @@
--- `places::row3` meets its contract: the row lies inside the state. Assumes nothing.
+-- `row3` meets its contract: the row lies inside the state. Assumes nothing.
 use mathlib.Core.Path.{refl}
 use native.Mathlib.Omega.{arith}
 use borrow.Author.Needs.{needs}
-use Rattle.hop_sound.proofs.Inside.{row3-inside}
-use Rattle.hop_sound.proofs.places.row3.Statement.{statement}
-use Rattle.hop_sound.proofs.places.row3.Tie as tie
+use Rattle.hop_rows.proofs.Inside.{row3-inside}
+use Rattle.hop_rows.proofs.row3.Statement.{statement}
+use Rattle.hop_rows.proofs.row3.Tie as tie
 
 start-requires : tie.Need-start-requires
 start-requires c κs = search needs
