@@ -16,7 +16,8 @@ use Rattle.hop_rule.specs.Stored.{nodes, flat, deep, read}
 use Rattle.hop_laws.proofs.Tests.{Tells, true-not-false, tells-as, tells-not-so, tells-eq, tells-le, tells-lt, tells-not, tells-and, tells-or, tells-every}
 use Rattle.hop_cells.specs.Cells.{get}
 use Rattle.hop_rows.specs.Rows.{row, byte, bothAre}
-use Rattle.hop_sound.specs.Check.{linkSound, downSound, idleSound, toldSound, busySound, queueSound, upSound, pairSound, routeSound, viewsSound, pastSound, sentSound, nodeSound, allSound}
+use Rattle.hop_pairs.specs.Pairs.{linkSound, downSound, idleSound, toldSound, busySound, queueSound, upSound, pairSound}
+use Rattle.hop_sound.specs.Check.{routeSound, viewsSound, pastSound, sentSound, nodeSound, allSound}
 use Rattle.hop_rows.proofs.RowTests.{Reads, Allows, tells-are, tells-both, tells-below, tells-differing, tells-same-rows, tells-allow, tells-told}
 use Rattle.hop_sound.proofs.Routes.{Given}
 

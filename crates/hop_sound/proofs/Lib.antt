@@ -1,4 +1,3 @@
-pub mod Ordered
 pub mod Listed
 pub mod Routes
 pub mod Judged

@@ -1,7 +1,6 @@
 // The soundness check: 01's sound, decided on the bytes of a stored state. Rows are judged as wholes; the ways out stand between them.
 
 mod nodes;
-mod pairs;
 
 ghost use mathlib.Core.Path.{_≡_};
 ghost use Rattle.hop_rule.specs.Stored.{nodes};

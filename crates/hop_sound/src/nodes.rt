@@ -1,6 +1,5 @@
 // What is judged of a node: its views, its pairs, its routes, and the places of the queues that it sends on.
 
-use crate::pairs;
 use hop_rule::Table;
 ghost use mathlib.Core.Path.{_≡_};
 ghost use Prim.Native.Nat.{_<_};
@@ -110,7 +109,7 @@ pub fn node_sound(s: &[u8], n: usize, u: usize) -> bool
     if !views_sound(s, n, u) {
         return false;
     }
-    if !pairs::pairs_sound(s, n, u) {
+    if !hop_pairs::pairs_sound(s, n, u) {
         return false;
     }
     if !routes_sound(s, n, u) {
