@@ -1,4 +1,4 @@
--- Tests on rows of bytes: what the inner loops of the check find out. A row starts at a place of the buffer and has k bytes. Used by Check; a buyer needs none of it.
+-- Rows of bytes: where they start, and what the inner loops of the check and of sending find out about them. A row starts at a place of the buffer and has k bytes. A buyer needs none of it.
 use mathlib.Core.Bool.{Bool, not, _&&_}
 use mathlib.Core.Path.{_≡_}
 use mathlib.Core.List.{List}
