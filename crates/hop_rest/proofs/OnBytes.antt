@@ -12,7 +12,7 @@ use Rattle.hop_rule.specs.Rule as rule
 use Rattle.hop_rule.specs.Rule.{total, passes, made}
 use Rattle.hop_rule.specs.Stored.{size, stored, nodes, read}
 use Rattle.hop_rule.specs.Sound.{Sound}
-use Rattle.hop_rule.specs.Calls.{Call, check, run, distance, downstream, totalQueued, Refusal, judge, empty, badCount, short, notSound, noNode, onState, refusals, done, outcome}
+use Rattle.hop_rule.specs.Calls.{Call, check, run, distance, downstream, totalQueued, Refusal, judge, empty, badCount, short, notSound, noNode, onState, refusals, answerAt, done, outcome}
 use Rattle.hop_laws.specs.Same.{Same}
 use Rattle.hop_laws.specs.Fine.{Fine}
 use Rattle.hop_laws.proofs.Words.{sum-same}
@@ -69,25 +69,25 @@ module _ (t : State) (o : Sound t) (r : List ℕ) (some : 1 ≤ t .n) (most : t 
       record { some = omega (arith, long); least = rw e some; most = rw e most; room = rw e long; sound = stored-sound o r }
 
   -- What the calls read there is the state's own.
-  stored-rest : AtRest t → outcome totalQueued (stored t ++ r) [] .value ≡ 0
+  stored-rest : AtRest t → answerAt 0 (outcome totalQueued (stored t ++ r) []) ≡ 0
   unfolding refusals done
   stored-rest rest =
       let same = read-stored o r in
-      ap (λ x. x .value) (outcome-done totalQueued (stored t ++ r) [] (fine-accepts _ stored-fine))
+      ap (answerAt 0) (outcome-done totalQueued (stored t ++ r) [] (fine-accepts _ stored-fine))
       ∙ rest-total (read (stored t ++ r)) (λ w u lw lu. same .queue w u lw lu ∙ rest w u (rw (same .n) at lw) (rw (same .n) at lu))
 
-  stored-distance : (u v : ℕ) → u < t .n → v < t .n → outcome (distance u v) (stored t ++ r) [] .value ≡ t .distance u v
+  stored-distance : (u v : ℕ) → u < t .n → v < t .n → answerAt 0 (outcome (distance u v) (stored t ++ r) []) ≡ t .distance u v
   unfolding refusals done
   stored-distance u v lu lv =
       let same = read-stored o r in
-      ap (λ x. x .value) (outcome-done (distance u v) (stored t ++ r) [] (fine-nodes _ u v stored-fine (rw stored-nodes lu) (rw stored-nodes lv)))
+      ap (answerAt 0) (outcome-done (distance u v) (stored t ++ r) [] (fine-nodes _ u v stored-fine (rw stored-nodes lu) (rw stored-nodes lv)))
       ∙ same .distance u v (rw (same .n) lu) (rw (same .n) lv)
 
-  stored-downstream : (u v : ℕ) → u < t .n → v < t .n → outcome (downstream u v) (stored t ++ r) [] .value ≡ t .downstream u v
+  stored-downstream : (u v : ℕ) → u < t .n → v < t .n → answerAt 0 (outcome (downstream u v) (stored t ++ r) []) ≡ t .downstream u v
   unfolding refusals done
   stored-downstream u v lu lv =
       let same = read-stored o r in
-      ap (λ x. x .value) (outcome-done (downstream u v) (stored t ++ r) [] (fine-nodes _ u v stored-fine (rw stored-nodes lu) (rw stored-nodes lv)))
+      ap (answerAt 0) (outcome-done (downstream u v) (stored t ++ r) [] (fine-nodes _ u v stored-fine (rw stored-nodes lu) (rw stored-nodes lv)))
       ∙ same .downstream u v (rw (same .n) lu) (rw (same .n) lv)
 
   stored-accepted : outcome check (stored t ++ r) [] .number ≡ 0
@@ -124,7 +124,7 @@ module _ (s : List ℕ) (accepted : outcome check s [] .number ≡ 0) (k : ℕ) 
   settled = comes-to-rest (read s) sound .run-settles k enough .0
 
   -- A question after the run is one about the stored state.
-  asked-after : (c : Call) {x : ℕ} → outcome c (stored t ++ drop (size (t .n)) s) [] .value ≡ x → outcome c (outcome (run k) s [] .bytes) [] .value ≡ x
+  asked-after : (c : Call) {x : ℕ} → answerAt 0 (outcome c (stored t ++ drop (size (t .n)) s) []) ≡ x → answerAt 0 (outcome c (outcome (run k) s [] .bytes) []) ≡ x
   asked-after c e = rw after e
 
   pub run-settles : RunSettles s k
@@ -135,8 +135,8 @@ module _ (s : List ℕ) (accepted : outcome check s [] .number ≡ 0) (k : ℕ) 
       let rest = drop (size (t .n)) s in
       record {
         done = ap (λ o. o .number) ran;
-        passes-most = rw (ap (λ o. o .passes) ran) (comes-to-rest (read s) sound .made-most k);
-        deliveries-most = rw (ap (λ o. o .deliveries) ran) (comes-to-rest (read s) sound .delivered-most k);
+        passes-most = rw (ap (answerAt 0) ran) (comes-to-rest (read s) sound .made-most k);
+        deliveries-most = rw (ap (answerAt 1) ran) (comes-to-rest (read s) sound .delivered-most k);
         accepted = rw after (stored-accepted t (kept .0) rest some most);
         nothing-queued = asked-after totalQueued (stored-rest t (kept .0) rest some most (settled .empty));
         distances = λ u v lu lv.

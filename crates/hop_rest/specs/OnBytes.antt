@@ -3,7 +3,7 @@ use mathlib.Core.Path.{_≡_}
 use mathlib.Core.List.{List, []}
 use Prim.Native.Nat.{ℕ, suc, _*_, _-_, _≤_, _<_}
 use Rattle.hop_rule.specs.Stored.{nodes, read}
-use Rattle.hop_rule.specs.Calls.{Call, check, run, distance, downstream, totalQueued, outcome}
+use Rattle.hop_rule.specs.Calls.{Call, check, run, distance, downstream, totalQueued, answerAt, outcome}
 use Rattle.hop_rest.specs.Walks.{Walk, HopCount, Nearer}
 
 -- The buffer after a run with allowance k, and what a call then answers.
@@ -11,13 +11,13 @@ abbrev pub left : List ℕ → ℕ → List ℕ
 left s k = outcome (run k) s [] .bytes
 
 abbrev pub asked : Call → List ℕ → ℕ → ℕ
-asked c s k = outcome c (left s k) [] .value
+asked c s k = answerAt 0 (outcome c (left s k) [])
 
 pub record RunSettles (s : List ℕ) (k : ℕ) : Type 0 where
   -- the run answers 0, with at most n passes and n³(n − 1) deliveries;
   pub done : outcome (run k) s [] .number ≡ 0
-  pub passes-most : outcome (run k) s [] .passes ≤ nodes s
-  pub deliveries-most : outcome (run k) s [] .deliveries ≤ nodes s * nodes s * nodes s * (nodes s - 1)
+  pub passes-most : answerAt 0 (outcome (run k) s []) ≤ nodes s
+  pub deliveries-most : answerAt 1 (outcome (run k) s []) ≤ nodes s * nodes s * nodes s * (nodes s - 1)
   -- check accepts what it leaves, and nothing is queued there;
   pub accepted : outcome check (left s k) [] .number ≡ 0
   pub nothing-queued : asked totalQueued s k ≡ 0

@@ -4,7 +4,7 @@ use mathlib.Core.Bool.{Bool, not, _||_}
 use mathlib.Core.List.{List, [], _∷_, _++_}
 use Prim.Native.Nat.{ℕ}
 use lib.Dec.{eqb, ltb, leb}
-use lib.ListN.{length, drop}
+use lib.ListN.{length, getD, drop}
 use Rattle.hop_rule.specs.declared.Event.{Event}
 use Rattle.hop_rule.specs.State.{State}
 use Rattle.hop_rule.specs.Words.{if_then_else_}
@@ -86,46 +86,48 @@ refusals totalQueued s out = onState s []
 refusals (status u) s out = onState s (noNode s u ∷ short out 14 ∷ [])
 refusals (writeEvent e) s out = short out (length (eventRecord e)) ∷ []
 
--- What a call gives: its number, its other answers (0 where it has none), and the bytes of the buffer and of the output as it leaves them.
+-- What a call gives: its number, its other answers in order (none where it is refused, and none for a call that answers its number only), and the bytes of the buffer and of the output as it leaves them.
 pub record Outcome : Type 0 where
   pub number : ℕ
-  pub value : ℕ
-  pub passes : ℕ
-  pub deliveries : ℕ
+  pub answers : List ℕ
   pub bytes : List ℕ
   pub output : List ℕ
 
--- A refusal returns its number, zero in every other answer, and no byte changes.
+-- A refusal returns its number and no other answer, and no byte changes.
 abbrev pub refused : ℕ → List ℕ → List ℕ → Outcome
-refused c s out = record { number = c; value = 0; passes = 0; deliveries = 0; bytes = s; output = out }
+refused c s out = record { number = c; answers = []; bytes = s; output = out }
+
+-- Zero in every other answer: where a caller is handed a place for each answer, this stands in place i.
+abbrev pub answerAt : ℕ → Outcome → ℕ
+answerAt i o = getD (o .answers) i 0
 
 -- An answer changes no byte.
-abbrev pub answered : ℕ → List ℕ → List ℕ → Outcome
-answered x s out = record { number = 0; value = x; passes = 0; deliveries = 0; bytes = s; output = out }
+abbrev pub answered : List ℕ → List ℕ → List ℕ → Outcome
+answered xs s out = record { number = 0; answers = xs; bytes = s; output = out }
 
 -- The new state is stored over the old, and the bytes after it stay.
 abbrev pub restored : State → List ℕ → List ℕ
 restored t s = stored t ++ drop (size (t .n)) s
 
-abbrev pub changed : State → ℕ → ℕ → List ℕ → List ℕ → Outcome
-changed t k d s out = record { number = 0; value = 0; passes = k; deliveries = d; bytes = restored t s; output = out }
+abbrev pub changed : State → List ℕ → List ℕ → List ℕ → Outcome
+changed t xs s out = record { number = 0; answers = xs; bytes = restored t s; output = out }
 
--- A record is written to the output, and the bytes after it stay.
+-- A record is written to the output, and the bytes after it stay; the answer is how many were written.
 abbrev pub recorded : List ℕ → List ℕ → List ℕ → Outcome
-recorded r s out = record { number = 0; value = length r; passes = 0; deliveries = 0; bytes = s; output = written r out }
+recorded r s out = record { number = 0; answers = length r ∷ []; bytes = s; output = written r out }
 
 unfoldable pub done : Call → List ℕ → List ℕ → Outcome
-done (make n) s out = changed (rule.fresh n) 0 0 s out
-done check s out = answered 0 s out
-done (up a b) s out = changed (rule.linkUp (read s) a b) 0 0 s out
-done (down a b) s out = changed (rule.linkDown (read s) a b) 0 0 s out
-done (deliver w u) s out = changed (rule.deliver (read s) w u) 0 0 s out
-done pass s out = changed (rule.pass (read s)) 0 (rule.total (read s)) s out
-done (run k) s out = let m = rule.made (read s) k in changed (rule.passes (read s) m) m (rule.delivered (read s) m) s out
-done (distance u v) s out = answered (read s .distance u v) s out
-done (downstream u v) s out = answered (read s .downstream u v) s out
-done (queueLength w u) s out = answered (length (read s .queue w u)) s out
-done totalQueued s out = answered (rule.total (read s)) s out
+done (make n) s out = changed (rule.fresh n) [] s out
+done check s out = answered [] s out
+done (up a b) s out = changed (rule.linkUp (read s) a b) [] s out
+done (down a b) s out = changed (rule.linkDown (read s) a b) [] s out
+done (deliver w u) s out = changed (rule.deliver (read s) w u) [] s out
+done pass s out = changed (rule.pass (read s)) (rule.total (read s) ∷ []) s out
+done (run k) s out = let m = rule.made (read s) k in changed (rule.passes (read s) m) (m ∷ rule.delivered (read s) m ∷ []) s out
+done (distance u v) s out = answered (read s .distance u v ∷ []) s out
+done (downstream u v) s out = answered (read s .downstream u v ∷ []) s out
+done (queueLength w u) s out = answered (length (read s .queue w u) ∷ []) s out
+done totalQueued s out = answered (rule.total (read s) ∷ []) s out
 done (status u) s out = recorded (statusRecord (read s) u) s out
 done (writeEvent e) s out = recorded (eventRecord e) s out
 

@@ -76,3 +76,21 @@ readEvent s p =
     else if not (eqb (wordAt s p) (lengthOf (wordAt s (p + 2)))) then Refused 11
     else if ltb (length s) (p + 2 + wordAt s p) then Refused 9
     else Found (eventAt (wordAt s (p + 2)) s (p + 4)) (p + 2 + wordAt s p)
+
+-- What reading answers, as 01's numbers: the number of the refusal, 0 for an event and for the plain end;
+unfoldable pub numberOf : Reading → ℕ
+numberOf (Found e next) = 0
+numberOf End = 0
+numberOf (Refused c) = c
+
+-- the event's kind and its kind's numbers, none at the end and at a refusal;
+unfoldable pub answersOf : Reading → List ℕ
+answersOf (Found e next) = kindOf e ∷ bodyOf e
+answersOf End = []
+answersOf (Refused c) = []
+
+-- and the place to read at next: past the record that was found; a refusal or the end leaves it as it was.
+unfoldable pub placeAfter : Reading → ℕ → ℕ
+placeAfter (Found e next) at = next
+placeAfter End at = at
+placeAfter (Refused c) at = at
