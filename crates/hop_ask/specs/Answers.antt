@@ -1,10 +1,17 @@
--- What the questions answer, as document 01's numbers, by the cases of the answer, with the state's bytes, which stay, and the output's. A contract equates it with the call's outcome.
-use mathlib.Core.List.{List}
+-- What the questions answer, as document 01's numbers: for each case of the answer its number and its other answers, and the outcome that they make with the state's bytes, which stay, and the output's. A contract equates that with the call's outcome.
+use mathlib.Core.List.{List, [], _∷_}
 use Prim.Native.Nat.{ℕ}
-use Rattle.hop_rule.specs.Calls.{Outcome, refused}
+use Rattle.hop_rule.specs.Calls.{Outcome}
 use Rattle.hop_ask.specs.declared.Answer.{Answer}
 use Rattle.hop_ask.specs.declared.Answer.the-variants.{Value, Refused}
 
+abbrev pub number : Answer → ℕ
+number (Value x) = 0
+number (Refused c) = c
+
+abbrev pub answers : Answer → List ℕ
+answers (Value x) = x ∷ []
+answers (Refused c) = []
+
 abbrev pub asked : Answer → List ℕ → List ℕ → Outcome
-asked (Value x) s out = record { number = 0; value = x; passes = 0; deliveries = 0; bytes = s; output = out }
-asked (Refused c) s out = refused c s out
+asked a s out = record { number = number a; answers = answers a; bytes = s; output = out }

@@ -13,16 +13,15 @@ use hop_records::write_two;
 use hop_rule::Event;
 use hop_rule::Reading;
 ghost use mathlib.Core.Path.{_≡_};
-ghost use mathlib.Core.List.{List, []};
-ghost use Prim.Native.Nat.{ℕ};
+ghost use mathlib.Core.List.{[], _∷_};
 ghost use Rattle.hop_rule.specs.Calls as call;
 ghost use Rattle.hop_rule.specs.Calls.{outcome};
-ghost use Rattle.hop_rule.specs.Records.{readEvent};
+ghost use Rattle.hop_rule.specs.Records.{kindOf, bodyOf, readEvent, placeAfter};
 ghost use Rattle.hop_core.specs.Answers as core;
-ghost use Rattle.hop_ask.specs.Answers as ask;
-ghost use Rattle.hop_records.specs.Writing.{outcomeOf};
-ghost use Rattle.hop_reader.specs.Stepping.{placeAfter};
-ghost use Rattle.hop_c.specs.Edge.{sizeOf, asked, passed, ran, wroteEvent, numbers, readOf};
+ghost use Rattle.hop_core.specs.Answers.{told, passed};
+ghost use Rattle.hop_ask.specs.Answers.{asked};
+ghost use Rattle.hop_records.specs.Writing.{wrote};
+ghost use Rattle.hop_c.specs.Edge.{sizeOf, answer, ran, wroteEvent, event, reading};
 
 // A number, and one answer.
 #[repr(C)]
@@ -48,9 +47,9 @@ pub struct HopEvent {
     pub second: u32,
 }
 
-// Each of the core's answers as the struct that says the same.
+// Each of the core's answers as the struct that says the same; no byte has a part in it.
 fn plain_answer(a: Answer) -> HopAnswer
-    ensures { λ r. ⌜ ((s out : List ℕ) → asked r s out ≡ ask.asked a s out) ⌝ }
+    ensures { λ r. ⌜ r ≡ answer (asked a [] []) ⌝ }
 {
     match a {
         Answer::Value(x) => HopAnswer { code: 0, value: x },
@@ -59,7 +58,7 @@ fn plain_answer(a: Answer) -> HopAnswer
 }
 
 fn plain_pass(a: PassAnswer) -> HopAnswer
-    ensures { λ r. ⌜ ((s : List ℕ) → passed r s ≡ core.passed a s) ⌝ }
+    ensures { λ r. ⌜ r ≡ answer (passed a []) ⌝ }
 {
     match a {
         PassAnswer::Delivered(d) => HopAnswer { code: 0, value: d },
@@ -68,7 +67,7 @@ fn plain_pass(a: PassAnswer) -> HopAnswer
 }
 
 fn plain_run(a: RunAnswer) -> HopRan
-    ensures { λ r. ⌜ ((s : List ℕ) → ran r s ≡ core.ran a s) ⌝ }
+    ensures { λ r. ⌜ r ≡ ran (core.ran a []) ⌝ }
 {
     match a {
         RunAnswer::Made(p, d) => HopRan {
@@ -85,7 +84,7 @@ fn plain_run(a: RunAnswer) -> HopRan
 }
 
 fn plain_written(w: Written) -> HopAnswer
-    ensures { λ r. ⌜ ((out : List ℕ) → asked r [] out ≡ outcomeOf w out) ⌝ }
+    ensures { λ r. ⌜ r ≡ answer (wrote w []) ⌝ }
 {
     match w {
         Written::Bytes(k) => HopAnswer { code: 0, value: k },
@@ -94,7 +93,7 @@ fn plain_written(w: Written) -> HopAnswer
 }
 
 fn plain_event(e: Event) -> HopEvent
-    ensures { λ r. ⌜ r ≡ numbers e ⌝ }
+    ensures { λ r. ⌜ r ≡ event 0 (kindOf e ∷ bodyOf e) ⌝ }
 {
     match e {
         Event::Make(n) => HopEvent {
@@ -131,7 +130,7 @@ fn plain_event(e: Event) -> HopEvent
 }
 
 fn plain_reading(a: Reading) -> HopEvent
-    ensures { λ r. ⌜ r ≡ readOf a ⌝ }
+    ensures { λ r. ⌜ r ≡ reading a ⌝ }
 {
     match a {
         Reading::Found(e, _) => plain_event(e),
@@ -167,49 +166,49 @@ pub extern "C" fn hop_size(n: usize) -> usize
 // The events, and check.
 #[no_mangle]
 pub extern "C" fn hop_make(state: &mut [u8], n: usize) -> u32
-    ensures { λ r. ⌜ core.told r (now (state .exit)) ≡ outcome (call.make n) (now (state .entry)) [] ⌝ }
+    ensures { λ r. ⌜ told r (now (state .exit)) ≡ outcome (call.make n) (now (state .entry)) [] ⌝ }
 {
     hop_core::make(state, n)
 }
 
 #[no_mangle]
 pub extern "C" fn hop_check(state: &[u8]) -> u32
-    ensures { λ r. ⌜ core.told r (now (state .entry)) ≡ outcome call.check (now (state .entry)) [] ⌝ }
+    ensures { λ r. ⌜ told r (now (state .entry)) ≡ outcome call.check (now (state .entry)) [] ⌝ }
 {
     hop_core::check(state)
 }
 
 #[no_mangle]
 pub extern "C" fn hop_up(state: &mut [u8], a: usize, b: usize) -> u32
-    ensures { λ r. ⌜ core.told r (now (state .exit)) ≡ outcome (call.up a b) (now (state .entry)) [] ⌝ }
+    ensures { λ r. ⌜ told r (now (state .exit)) ≡ outcome (call.up a b) (now (state .entry)) [] ⌝ }
 {
     hop_core::up(state, a, b)
 }
 
 #[no_mangle]
 pub extern "C" fn hop_down(state: &mut [u8], a: usize, b: usize) -> u32
-    ensures { λ r. ⌜ core.told r (now (state .exit)) ≡ outcome (call.down a b) (now (state .entry)) [] ⌝ }
+    ensures { λ r. ⌜ told r (now (state .exit)) ≡ outcome (call.down a b) (now (state .entry)) [] ⌝ }
 {
     hop_core::down(state, a, b)
 }
 
 #[no_mangle]
 pub extern "C" fn hop_deliver(state: &mut [u8], from: usize, to: usize) -> u32
-    ensures { λ r. ⌜ core.told r (now (state .exit)) ≡ outcome (call.deliver from to) (now (state .entry)) [] ⌝ }
+    ensures { λ r. ⌜ told r (now (state .exit)) ≡ outcome (call.deliver from to) (now (state .entry)) [] ⌝ }
 {
     hop_core::deliver(state, from, to)
 }
 
 #[no_mangle]
 pub extern "C" fn hop_pass(state: &mut [u8]) -> HopAnswer
-    ensures { λ r. ⌜ passed r (now (state .exit)) ≡ outcome call.pass (now (state .entry)) [] ⌝ }
+    ensures { λ r. ⌜ (r ≡ answer (outcome call.pass (now (state .entry)) [])) × (now (state .exit) ≡ outcome call.pass (now (state .entry)) [] .bytes) ⌝ }
 {
     plain_pass(hop_core::pass(state))
 }
 
 #[no_mangle]
 pub extern "C" fn hop_run(state: &mut [u8], allowance: u8) -> HopRan
-    ensures { λ r. ⌜ ran r (now (state .exit)) ≡ outcome (call.run allowance) (now (state .entry)) [] ⌝ }
+    ensures { λ r. ⌜ (r ≡ ran (outcome (call.run allowance) (now (state .entry)) [])) × (now (state .exit) ≡ outcome (call.run allowance) (now (state .entry)) [] .bytes) ⌝ }
 {
     plain_run(hop_core::run(state, allowance))
 }
@@ -217,28 +216,28 @@ pub extern "C" fn hop_run(state: &mut [u8], allowance: u8) -> HopRan
 // The questions.
 #[no_mangle]
 pub extern "C" fn hop_distance(state: &[u8], node: usize, destination: usize) -> HopAnswer
-    ensures { λ r. ⌜ asked r (now (state .entry)) [] ≡ outcome (call.distance node destination) (now (state .entry)) [] ⌝ }
+    ensures { λ r. ⌜ r ≡ answer (outcome (call.distance node destination) (now (state .entry)) []) ⌝ }
 {
     plain_answer(hop_ask::distance(state, node, destination))
 }
 
 #[no_mangle]
 pub extern "C" fn hop_downstream(state: &[u8], node: usize, destination: usize) -> HopAnswer
-    ensures { λ r. ⌜ asked r (now (state .entry)) [] ≡ outcome (call.downstream node destination) (now (state .entry)) [] ⌝ }
+    ensures { λ r. ⌜ r ≡ answer (outcome (call.downstream node destination) (now (state .entry)) []) ⌝ }
 {
     plain_answer(hop_ask::downstream(state, node, destination))
 }
 
 #[no_mangle]
 pub extern "C" fn hop_queue_length(state: &[u8], from: usize, to: usize) -> HopAnswer
-    ensures { λ r. ⌜ asked r (now (state .entry)) [] ≡ outcome (call.queueLength from to) (now (state .entry)) [] ⌝ }
+    ensures { λ r. ⌜ r ≡ answer (outcome (call.queueLength from to) (now (state .entry)) []) ⌝ }
 {
     plain_answer(hop_ask::queue_length(state, from, to))
 }
 
 #[no_mangle]
 pub extern "C" fn hop_total_queued(state: &[u8]) -> HopAnswer
-    ensures { λ r. ⌜ asked r (now (state .entry)) [] ≡ outcome call.totalQueued (now (state .entry)) [] ⌝ }
+    ensures { λ r. ⌜ r ≡ answer (outcome call.totalQueued (now (state .entry)) []) ⌝ }
 {
     plain_answer(hop_ask::total_queued(state))
 }
@@ -246,14 +245,15 @@ pub extern "C" fn hop_total_queued(state: &[u8]) -> HopAnswer
 // The records.
 #[no_mangle]
 pub extern "C" fn hop_status(state: &[u8], node: usize, out: &mut [u8]) -> HopAnswer
-    ensures { λ r. ⌜ asked r (now (state .entry)) (now (out .exit)) ≡ outcome (call.status node) (now (state .entry)) (now (out .entry)) ⌝ }
+    ensures { λ r. ⌜ (r ≡ answer (outcome (call.status node) (now (state .entry)) (now (out .entry))))
+        × (now (out .exit) ≡ outcome (call.status node) (now (state .entry)) (now (out .entry)) .output) ⌝ }
 {
     plain_answer(hop_ask::status(state, node, out))
 }
 
 #[no_mangle]
 pub extern "C" fn hop_write_event(kind: u32, first: u16, second: u16, out: &mut [u8]) -> HopAnswer
-    ensures { λ r. ⌜ asked r [] (now (out .exit)) ≡ wroteEvent kind first second (now (out .entry)) ⌝ }
+    ensures { λ r. ⌜ (r ≡ answer (wroteEvent kind first second (now (out .entry)))) × (now (out .exit) ≡ wroteEvent kind first second (now (out .entry)) .output) ⌝ }
 {
     // The three kinds with two numbers go one way, and first: this is faster than a way for each kind.
     if 16 <= kind {
@@ -273,7 +273,7 @@ pub extern "C" fn hop_write_event(kind: u32, first: u16, second: u16, out: &mut 
 
 #[no_mangle]
 pub extern "C" fn hop_read_event(bytes: &[u8], place: &mut usize) -> HopEvent
-    ensures { λ r. ⌜ (r ≡ readOf (readEvent (now (bytes .entry)) (now (place .entry))))
+    ensures { λ r. ⌜ (r ≡ reading (readEvent (now (bytes .entry)) (now (place .entry))))
         × (now (place .exit) ≡ placeAfter (readEvent (now (bytes .entry)) (now (place .entry))) (now (place .entry))) ⌝ }
 {
     let step = read_from(bytes, *place);

@@ -4,8 +4,8 @@ use hop_records::read_event;
 use hop_rule::Reading;
 ghost use mathlib.Core.Path.{_≡_};
 ghost use Prim.Native.Nat.{_+_};
-ghost use Rattle.hop_rule.specs.Records.{readEvent};
-ghost use Rattle.hop_reader.specs.Stepping.{placeAfter, stepAt};
+ghost use Rattle.hop_rule.specs.Records.{readEvent, placeAfter};
+ghost use Rattle.hop_reader.specs.Stepping.{stepAt};
 
 // What was read at a place, and the place to read at next.
 pub struct Step {

@@ -13,19 +13,19 @@ use Rattle.hop_rule.specs.declared.Event.{Event}
 use Rattle.hop_rule.specs.Records.{eventRecord, written}
 use Rattle.hop_rule.specs.Calls.{writeEvent, Outcome, judge, refusals, refused, recorded, done, outcome}
 use Rattle.hop_records.specs.declared.Written.the-variants.{Bytes, Refused}
-use Rattle.hop_records.specs.Writing.{outcomeOf, tried}
+use Rattle.hop_records.specs.Writing.{wrote, tried}
 
 module _ (r out : List ℕ) where
   pub sets-written : length r ≤ length out → sets out 0 r ≡ written r out
   unfolding written
   sets-written h = sets-eq r out 0 (omega arith) ∙ rw zero-add
 
-  pub refused-tried : length out < length r → outcomeOf (Refused 2) out ≡ tried r out
-  unfolding outcomeOf tried
+  pub refused-tried : length out < length r → wrote (Refused 2) out ≡ tried r out
+  unfolding tried
   refused-tried h = rw (lt-ltb (length out) (length r) h)
 
-  pub stored-tried : length r ≤ length out → {after : List ℕ} → after ≡ sets out 0 r → outcomeOf (Bytes (length r)) after ≡ tried r out
-  unfolding outcomeOf tried
+  pub stored-tried : length r ≤ length out → {after : List ℕ} → after ≡ sets out 0 r → wrote (Bytes (length r)) after ≡ tried r out
+  unfolding tried
   stored-tried h e = rw (le-ltb (length out) (length r) h, e, sets-written h)
 
 -- To try an event's record is to write the event.

@@ -9,7 +9,7 @@ ghost use lib.ListN.{length};
 ghost use lib.Seq.{sets};
 ghost use Rattle.hop_rule.specs.Records.{words, wordAt, recordOf, known, lengthOf, eventAt, readEvent, written};
 ghost use Rattle.hop_rule.specs.Calls.{writeEvent, outcome};
-ghost use Rattle.hop_records.specs.Writing.{outcomeOf, tried};
+ghost use Rattle.hop_records.specs.Writing.{wrote, tried};
 
 // What writing a record gives: the bytes written, or the number of the refusal.
 pub enum Written {
@@ -37,7 +37,7 @@ fn write_pair(out: &mut [u8], at: usize, x: u16, y: u16)
 
 // A record of a kind whose body has no number, one, or two.
 pub fn write_none(kind: u16, out: &mut [u8]) -> Written
-    ensures { λ r. ⌜ outcomeOf r (now (out .exit)) ≡ tried (recordOf kind []) (now (out .entry)) ⌝ }
+    ensures { λ r. ⌜ wrote r (now (out .exit)) ≡ tried (recordOf kind []) (now (out .entry)) ⌝ }
 {
     if out.len() < 4 {
         return Written::Refused(2);
@@ -47,7 +47,7 @@ pub fn write_none(kind: u16, out: &mut [u8]) -> Written
 }
 
 pub fn write_one(kind: u16, a: u16, out: &mut [u8]) -> Written
-    ensures { λ r. ⌜ outcomeOf r (now (out .exit)) ≡ tried (recordOf kind (a ∷ [])) (now (out .entry)) ⌝ }
+    ensures { λ r. ⌜ wrote r (now (out .exit)) ≡ tried (recordOf kind (a ∷ [])) (now (out .entry)) ⌝ }
 {
     if out.len() < 6 {
         return Written::Refused(2);
@@ -58,7 +58,7 @@ pub fn write_one(kind: u16, a: u16, out: &mut [u8]) -> Written
 }
 
 pub fn write_two(kind: u16, a: u16, b: u16, out: &mut [u8]) -> Written
-    ensures { λ r. ⌜ outcomeOf r (now (out .exit)) ≡ tried (recordOf kind (a ∷ b ∷ [])) (now (out .entry)) ⌝ }
+    ensures { λ r. ⌜ wrote r (now (out .exit)) ≡ tried (recordOf kind (a ∷ b ∷ [])) (now (out .entry)) ⌝ }
 {
     if out.len() < 8 {
         return Written::Refused(2);
@@ -70,7 +70,7 @@ pub fn write_two(kind: u16, a: u16, b: u16, out: &mut [u8]) -> Written
 
 // Writing an event needs its length + 2 bytes; the bytes after them stay.
 pub fn write_event(e: Event, out: &mut [u8]) -> Written
-    ensures { λ r. ⌜ outcomeOf r (now (out .exit)) ≡ outcome (writeEvent e) [] (now (out .entry)) ⌝ }
+    ensures { λ r. ⌜ wrote r (now (out .exit)) ≡ outcome (writeEvent e) [] (now (out .entry)) ⌝ }
 {
     match e {
         Event::Make(n) => write_one(15, n, out),

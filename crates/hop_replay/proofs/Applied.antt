@@ -5,9 +5,6 @@ use Prim.Native.Nat.{ℕ}
 use lib.ListN.{take}
 use Rattle.hop_rule.specs.declared.Event.{Event}
 use Rattle.hop_rule.specs.Calls.{Call, make, Outcome, outcome}
-use Rattle.hop_core.specs.declared.PassAnswer.{PassAnswer}
-use Rattle.hop_core.specs.declared.PassAnswer.the-variants.{Delivered, Refused}
-use Rattle.hop_core.specs.Answers.{passed}
 use Rattle.hop_rule.specs.Records.{kindOf}
 use Rattle.hop_text.specs.Text.{eventLine}
 use Rattle.hop_replay.specs.Replay.{callOf, queued, appliedLine, eventsOf, played}
@@ -15,15 +12,6 @@ use Rattle.hop_replay.specs.Replay.{callOf, queued, appliedLine, eventsO
 -- An event is applied by its call.
 pub applied : (e : Event) (s : List ℕ) {c : Call} {o : Outcome} → callOf e ≡ c → o ≡ outcome c s [] → (o .number ≡ outcome (callOf e) s [] .number) × (o .bytes ≡ outcome (callOf e) s [] .bytes)
 applied e s h k = rw (h, ← k) (refl, refl)
-
--- A pass's number does not depend on the bytes, and its bytes not on its number.
-pub passed-number : (a : PassAnswer) (s : List ℕ) → passed a [] .number ≡ passed a s .number
-passed-number (Delivered d) s = refl
-passed-number (Refused c) s = refl
-
-pub passed-bytes : (a : PassAnswer) (s : List ℕ) → s ≡ passed a s .bytes
-passed-bytes (Delivered d) s = refl
-passed-bytes (Refused c) s = refl
 
 -- Its line is made of these four numbers.
 pub applied-line : (ordinal : ℕ) (e : Event) (s : List ℕ) {kind code waits : ℕ} {t : List ℕ}

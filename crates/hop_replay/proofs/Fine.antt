@@ -18,7 +18,7 @@ use Rattle.hop_rule.specs.Rule.{fresh, linkUp, linkDown, cut, total}
 use Rattle.hop_rule.specs.Stored.{size, stored, nodes, read}
 use Rattle.hop_rule.specs.Sound.{Sound}
 use Rattle.hop_rule.specs.Records.{readEvent}
-use Rattle.hop_rule.specs.Calls.{Call, make, check, up, down, deliver, pass, totalQueued, Refusal, Outcome, badCount, short, noNode, oneNode, isUp, isDown, nothingWaits, onState, judge, refusals, done, outcome}
+use Rattle.hop_rule.specs.Calls.{Call, make, check, up, down, deliver, pass, totalQueued, Refusal, Outcome, badCount, short, noNode, oneNode, isUp, isDown, nothingWaits, onState, judge, refusals, answerAt, done, outcome}
 use Rattle.hop_laws.specs.Fine.{Fine}
 use Rattle.hop_laws.proofs.Stored.{length-stored, stored-holds}
 use Rattle.hop_laws.proofs.Sound.{sound-bytes-tells}
@@ -128,7 +128,7 @@ module _ (s : List ℕ) (fine : Fine s) where
 
   pub queued-total : queued s ≡ total (read s)
   unfolding queued refusals done
-  queued-total = ap (λ (o : Outcome). o .value) (outcome-done totalQueued s [] fine-judged)
+  queued-total = ap (answerAt 0) (outcome-done totalQueued s [] fine-judged)
 
   pub routes-lines : routes s ≡ routeLines (read s)
   unfolding refusals

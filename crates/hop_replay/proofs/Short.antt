@@ -19,7 +19,7 @@ use Rattle.hop_rule.specs.Rule.{route}
 use Rattle.hop_rule.specs.Stored.{read}
 use Rattle.hop_rule.specs.Sound.{Sound}
 use Rattle.hop_rule.specs.Records.{wordAt, kindOf, known, lengthOf, readEvent}
-use Rattle.hop_rule.specs.Calls.{Refusal, Outcome, make, check, totalQueued, judge, refusals, done, outcome}
+use Rattle.hop_rule.specs.Calls.{Refusal, Outcome, make, check, totalQueued, judge, refusals, answerAt, done, outcome}
 use Rattle.hop_laws.proofs.Rule.{route-distance-most, route-distance-other, route-downstream-own, route-downstream-other, nearest-none, nearest-gives}
 use Rattle.hop_laws.proofs.Ceiling.{total-fits}
 use Rattle.hop_laws.proofs.Calls.{outcome-done, outcome-refused, state-fine}
@@ -90,11 +90,11 @@ queued-small : (s : List ℕ) → queued s < 100000
 unfolding queued refusals done read
 queued-small s = go (ℕ-discrete (judge (refusals totalQueued s [])) 0)
   where
-    go : Dec (judge (refusals totalQueued s []) ≡ 0) → outcome totalQueued s [] .value < 100000
+    go : Dec (judge (refusals totalQueued s []) ≡ 0) → answerAt 0 (outcome totalQueued s []) < 100000
     go (yes z) =
         let fine = state-fine s [] z .0 in
-        omega (arith, ap (λ (o : Outcome). o .value) (outcome-done totalQueued s [] z), total-fits (read s) (fine .sound .state) (fine .most))
-    go (no f) = omega (arith, ap (λ (o : Outcome). o .value) (outcome-refused totalQueued s [] f))
+        omega (arith, ap (answerAt 0) (outcome-done totalQueued s [] z), total-fits (read s) (fine .sound .state) (fine .most))
+    go (no f) = omega (arith, ap (answerAt 0) (outcome-refused totalQueued s [] f))
 
 -- ---- the event lines
 

@@ -10,7 +10,7 @@ use Rattle.hop_rule.specs.Words.{if_then_else_, joined}
 use Rattle.hop_rule.specs.State.{State}
 use Rattle.hop_rule.specs.Stored.{read}
 use Rattle.hop_rule.specs.Records.{kindOf, readEvent}
-use Rattle.hop_rule.specs.Calls.{Call, make, check, up, down, deliver, pass, totalQueued, outcome}
+use Rattle.hop_rule.specs.Calls.{Call, make, check, up, down, deliver, pass, totalQueued, answerAt, outcome}
 use Rattle.hop_text.specs.Text.{header, eventLine, routeLine}
 
 -- The call that an event asks for.
@@ -23,7 +23,7 @@ callOf Pass = pass
 
 -- The total queued, as asking for it answers.
 unfoldable pub queued : List ℕ → ℕ
-queued s = outcome totalQueued s [] .value
+queued s = answerAt 0 (outcome totalQueued s [])
 
 -- The line of an event that is applied to the bytes s: its refusal number, and the total queued after it.
 unfoldable pub appliedLine : ℕ → Event → List ℕ → List ℕ

@@ -20,7 +20,7 @@ ghost use Rattle.hop_rule.specs.Stored.{nodes, read};
 ghost use Rattle.hop_rule.specs.Records.{kindOf};
 ghost use Rattle.hop_rule.specs.Calls.{outcome};
 ghost use Rattle.hop_cells.specs.Cells.{Room};
-ghost use Rattle.hop_core.specs.Answers.{passed};
+ghost use Rattle.hop_core.specs.Answers.{passNumber};
 ghost use Rattle.hop_text.specs.Writing.{Ends, Wrote};
 ghost use Rattle.hop_replay.specs.Replay as replay;
 ghost use Rattle.hop_replay.specs.Replay.{callOf, appliedLine, eventsOf, routesFrom, routeLines, routes, replayed};
@@ -39,7 +39,7 @@ fn kind_of(e: Event) -> usize
 
 // The refusal number of a pass; what it delivered is not printed.
 fn number_of(answer: PassAnswer) -> u32
-    ensures { λ r. ⌜ r ≡ passed answer [] .number ⌝ }
+    ensures { λ r. ⌜ r ≡ passNumber answer ⌝ }
 {
     match answer {
         PassAnswer::Delivered(_) => 0,

@@ -1,5 +1,7 @@
 -- `hop_c::hop_pass` meets its contract: the struct says what the core answered. Assumes nothing.
-use mathlib.Core.Path.{_∙_}
+use mathlib.Core.Path.{ap, _∙_}
+use Rattle.hop_rule.specs.Calls.{Outcome}
+use Rattle.hop_c.specs.Edge.{answer}
 use borrow.Author.Needs.{needs}
 use Rattle.hop_c.proofs.hop_pass.Statement.{statement}
 use Rattle.hop_c.proofs.hop_pass.Tie as tie
@@ -14,7 +16,9 @@ same-length : tie.Need-same-length
 same-length c = search needs
 
 returns : tie.Need-returns
-returns c = c .plain-pass .ensures _ ∙ c .before .before .before .pass .ensures
+returns c =
+    let did = c .before .before .before .pass .ensures in
+    (c .plain-pass .ensures ∙ ap answer did, ap (λ (o : Outcome). o .bytes) did)
 
 pub hop-pass-spec : {M : Type 1} → statement M
 hop-pass-spec = tie.close (tie.spec pass-requires plain-pass-requires same-length returns)

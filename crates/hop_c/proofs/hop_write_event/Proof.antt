@@ -1,7 +1,7 @@
 -- `hop_c::hop_write_event` meets its contract: each way knows how many numbers the kind has, and its record is the event's. Assumes nothing.
 use mathlib.Core.Path.{_∙_}
 use native.Mathlib.Omega.{arith}
-use Rattle.hop_c.proofs.Numbered.{one-written, two-written, none-written, other-refused}
+use Rattle.hop_c.proofs.Numbered.{one-written, two-written, none-written, other-refused, written-seen, refused-seen}
 use borrow.Author.Needs.{needs}
 use Rattle.hop_c.proofs.hop_write_event.Statement.{statement}
 use Rattle.hop_c.proofs.hop_write_event.Tie as tie
@@ -19,7 +19,7 @@ same-length : tie.Need-same-length
 same-length c = search needs
 
 returns : tie.Need-returns
-returns c = c .plain-written .ensures _ ∙ c .before .before .before .write-two .ensures ∙ two-written _ _ _ _ (omega arith)
+returns c = written-seen (c .before .before .before .write-two .result) (c .plain-written .ensures) (c .before .before .before .write-two .ensures ∙ two-written _ _ _ _ (omega arith))
 
 write-none-requires : tie.Need-write-none-requires
 write-none-requires c κs = search needs
@@ -31,10 +31,10 @@ same-length-2 : tie.Need-same-length-2
 same-length-2 c = search needs
 
 returns-2 : tie.Need-returns-2
-returns-2 c = c .plain-written2 .ensures _ ∙ c .before .before .before .write-none .ensures ∙ none-written _ _ _ _ (c .before .before .before .before .before .if3 .taken)
+returns-2 c = written-seen (c .before .before .before .write-none .result) (c .plain-written2 .ensures) (c .before .before .before .write-none .ensures ∙ none-written _ _ _ _ (c .before .before .before .before .before .if3 .taken))
 
 returns-3 : tie.Need-returns-3
-returns-3 c = other-refused _ _ _ _ (λ h. omega arith)
+returns-3 c = refused-seen (other-refused _ _ _ _ (λ h. omega arith))
 
 write-one-requires : tie.Need-write-one-requires
 write-one-requires c κs = search needs
@@ -46,10 +46,10 @@ same-length-3 : tie.Need-same-length-3
 same-length-3 c = search needs
 
 returns-4 : tie.Need-returns-4
-returns-4 c = c .plain-written3 .ensures _ ∙ c .before .before .before .write-one .ensures ∙ one-written _ _ _ _ (c .before .before .before .before .before .if4 .taken)
+returns-4 c = written-seen (c .before .before .before .write-one .result) (c .plain-written3 .ensures) (c .before .before .before .write-one .ensures ∙ one-written _ _ _ _ (c .before .before .before .before .before .if4 .taken))
 
 returns-5 : tie.Need-returns-5
-returns-5 c = other-refused _ _ _ _ (λ h. omega arith)
+returns-5 c = refused-seen (other-refused _ _ _ _ (λ h. omega arith))
 
 pub hop-write-event-spec : {M : Type 1} → statement M
 hop-write-event-spec =

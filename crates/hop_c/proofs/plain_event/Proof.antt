@@ -1,5 +1,5 @@
 -- `hop_c::plain_event` meets its contract: each arm knows the event. Assumes nothing.
-use Rattle.hop_c.specs.Edge.{numbers}
+use Rattle.hop_rule.specs.Records.{kindOf, bodyOf}
 use borrow.Author.Needs.{needs}
 use Rattle.hop_c.proofs.plain_event.Statement.{statement}
 use Rattle.hop_c.proofs.plain_event.Tie as tie
@@ -41,23 +41,23 @@ enum-told : tie.Need-enum-told
 enum-told c = search needs
 
 returns : tie.Need-returns
-unfolding numbers
+unfolding kindOf bodyOf
 returns c = rw (c .before .e .given .1)
 
 returns-2 : tie.Need-returns-2
-unfolding numbers
+unfolding kindOf bodyOf
 returns-2 c = rw (c .before .e2 .given .1)
 
 returns-3 : tie.Need-returns-3
-unfolding numbers
+unfolding kindOf bodyOf
 returns-3 c = rw (c .before .e3 .given .1)
 
 returns-4 : tie.Need-returns-4
-unfolding numbers
+unfolding kindOf bodyOf
 returns-4 c = rw (c .before .e4 .given .1)
 
 returns-5 : tie.Need-returns-5
-unfolding numbers
+unfolding kindOf bodyOf
 returns-5 c = rw (c .enum-told .given .1)
 
 pub plain-event-spec : {M : Type 1} → statement M

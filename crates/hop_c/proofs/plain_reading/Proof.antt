@@ -1,5 +1,5 @@
 -- `hop_c::plain_reading` meets its contract: each arm knows what was read. Assumes nothing.
-use Rattle.hop_c.specs.Edge.{readOf}
+use Rattle.hop_rule.specs.Records.{numberOf, answersOf}
 use borrow.Author.Needs.{needs}
 use Rattle.hop_c.proofs.plain_reading.Statement.{statement}
 use Rattle.hop_c.proofs.plain_reading.Tie as tie
@@ -17,15 +17,15 @@ enum-known-a-2 : tie.Need-enum-known-a-2
 enum-known-a-2 c = search needs
 
 returns : tie.Need-returns
-unfolding readOf
+unfolding numberOf answersOf
 returns c = rw (c .plain-event .ensures, c .before .before .a .given .1)
 
 returns-2 : tie.Need-returns-2
-unfolding readOf
+unfolding numberOf answersOf
 returns-2 c = rw (c .enum-told .given .1)
 
 returns-3 : tie.Need-returns-3
-unfolding readOf
+unfolding numberOf answersOf
 returns-3 c = rw (c .before .a2 .given .1)
 
 pub plain-reading-spec : {M : Type 1} → statement M

@@ -10,10 +10,10 @@ enum-known-a-2 : tie.Need-enum-known-a-2
 enum-known-a-2 c = search needs
 
 returns : tie.Need-returns
-returns c = λ s. rw (c .before .a .given .1)
+returns c = rw (c .before .a .given .1)
 
 returns-2 : tie.Need-returns-2
-returns-2 c = λ s. rw (c .before .a2 .given .1)
+returns-2 c = rw (c .before .a2 .given .1)
 
 pub plain-run-spec : {M : Type 1} → statement M
 plain-run-spec = tie.close (tie.spec enum-known-a enum-known-a-2 returns returns-2)

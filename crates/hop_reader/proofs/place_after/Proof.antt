@@ -1,6 +1,6 @@
 -- `hop_records::place_after` meets its contract: each arm knows what was read, at which the definition computes. Assumes nothing.
 use borrow.Author.Needs.{needs}
-use Rattle.hop_reader.specs.Stepping.{placeAfter}
+use Rattle.hop_rule.specs.Records.{placeAfter}
 use Rattle.hop_reader.proofs.place_after.Statement.{statement}
 use Rattle.hop_reader.proofs.place_after.Tie as tie
 

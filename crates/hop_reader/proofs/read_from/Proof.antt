@@ -50,10 +50,10 @@ use denote.Triple.Table.{entered, cited}
 use denote.Triple.Walked.{says, Stays, stay-none, stay-none-slice, walkOf, goes-none, goes-none-slice, Walks, ends-at, walked, walk-meets}
 use denote.Exit.{yes}
 use Rattle.hop_rule.specs.declared.Reading.{Reading}
-use Rattle.hop_rule.specs.Records.{readEvent}
+use Rattle.hop_rule.specs.Records.{readEvent, placeAfter}
 use Rattle.hop_rule.proofs.Reading as E
 use Rattle.hop_rule.proofs.Reading.Laws as E′
-use Rattle.hop_reader.specs.Stepping.{placeAfter, stepAt}
+use Rattle.hop_reader.specs.Stepping.{stepAt}
 use Rattle.hop_reader.specs.declared.Reader.{Reader}
 use Rattle.hop_reader.specs.declared.Step.{Step}
 use Rattle.hop_reader.proofs.Reader as T

@@ -46,7 +46,8 @@ use denote.Triple.Table.{entered, cited}
 use denote.Triple.Walked.{says, Stays, stay-ref, walkOf, goes-ref, Walks, ends-at, walked, walk-meets}
 use Rattle.hop_rule.proofs.Reading as E
 use Rattle.hop_rule.proofs.Reading.Laws as E′
-use Rattle.hop_reader.specs.Stepping.{placeAfter, stepAt}
+use Rattle.hop_rule.specs.Records.{placeAfter}
+use Rattle.hop_reader.specs.Stepping.{stepAt}
 use Rattle.hop_reader.specs.declared.Reader.{Reader}
 use Rattle.hop_reader.specs.declared.Step.{Step}
 use Rattle.hop_reader.proofs.Reader as T

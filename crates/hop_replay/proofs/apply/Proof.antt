@@ -2,7 +2,7 @@
 use mathlib.Core.Path.{ap, _∙_}
 use borrow.Author.Needs.{needs}
 use Rattle.hop_replay.specs.Replay.{callOf}
-use Rattle.hop_replay.proofs.Applied.{applied, passed-number, passed-bytes}
+use Rattle.hop_replay.proofs.Applied.{applied}
 use Rattle.hop_replay.proofs.apply.Statement.{statement}
 use Rattle.hop_replay.proofs.apply.Tie as tie
 
@@ -114,7 +114,7 @@ returns-5 c =
     let at-enum-told = at-pass .before .before in
     let at-args = at-enum-told .before .before .before in
     let (number, bytes) = applied (at-args .args .e) (at-args .args .state .now) (ap callOf (at-enum-told .enum-told .given .1)) (at-pass .pass .ensures) in
-    (c .number-of .ensures ∙ passed-number (at-pass .pass .result) (at-pass .pass .last .0) ∙ number, passed-bytes (at-pass .pass .result) (at-pass .pass .last .0) ∙ bytes)
+    (c .number-of .ensures ∙ number, bytes)
 
 pub apply-spec : {M : Type 1} → statement M
 apply-spec =

@@ -2,7 +2,7 @@
 use mathlib.Core.Path.{ap}
 use borrow.Author.Needs.{needs}
 use Rattle.hop_replay.specs.Replay.{queued}
-use Rattle.hop_rule.specs.Calls.{Outcome}
+use Rattle.hop_rule.specs.Calls.{answerAt}
 use Rattle.hop_replay.proofs.queued.Statement.{statement}
 use Rattle.hop_replay.proofs.queued.Tie as tie
 
@@ -23,11 +23,11 @@ unfolding queued
 returns c =
     let at-x = c .before in
     let at-total-queued = at-x .before .before in
-    ap (λ (o : Outcome). o .value) (rw (at-x .x .given .1) at (at-total-queued .total-queued .ensures))
+    ap (answerAt 0) (rw (at-x .x .given .1) at (at-total-queued .total-queued .ensures))
 
 returns-2 : tie.Need-returns-2
 unfolding queued
-returns-2 c = ap (λ (o : Outcome). o .value) (rw (c .enum-told .given .1) at (c .before .before .total-queued .ensures))
+returns-2 c = ap (answerAt 0) (rw (c .enum-told .given .1) at (c .before .before .total-queued .ensures))
 
 pub queued-spec : {M : Type 1} → statement M
 queued-spec =
