@@ -1,1 +1,2 @@
 pub mod Events
+pub mod Answers

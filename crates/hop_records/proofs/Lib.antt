@@ -1,2 +1,3 @@
 mod Heads
 pub mod Stores
+pub mod Answers

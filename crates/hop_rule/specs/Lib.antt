@@ -5,6 +5,7 @@ pub mod Stored
 pub mod Sound
 pub mod Records
 pub mod Calls
+pub mod Fixed
 pub mod Numbers
 pub mod Damage
 pub mod Readings

@@ -1,0 +1,26 @@
+-- An outcome fixes a question's answer: a value is not a refusal, whose list of answers is empty, and equal lists have equal places. Assumes nothing.
+use mathlib.Core.Path.{_≡_, sym, ap, _∙_}
+use mathlib.Core.List.{List}
+use Prim.Native.Nat.{ℕ}
+use native.Mathlib.Omega.{arith}
+use lib.ListN.{length, getD}
+use Rattle.hop_rule.specs.Fixed.{Fixed, FixedAnswer}
+use Rattle.hop_rule.specs.Calls.{Outcome}
+use Rattle.hop_ask.specs.declared.Answer.{Answer}
+use Rattle.hop_ask.specs.declared.Answer.the-variants.{Value, Refused}
+use Rattle.hop_ask.specs.Answers.{number, answers, asked}
+
+told : (a b : Answer) → number a ≡ number b → answers a ≡ answers b → a ≡ b
+told (Value x) (Value y) n l = ap Value (ap (λ xs. getD xs 0 0) l)
+told (Value x) (Refused c) n l = absurd (omega (arith, ap length l))
+told (Refused c) (Value x) n l = absurd (omega (arith, ap length l))
+told (Refused c) (Refused b) n l = ap Refused n
+
+-- With the output's bytes, where there is one.
+pub asked-fixed : (o : Outcome) (s : List ℕ) → Fixed (λ (a : Answer) (out : List ℕ). asked a s out ≡ o)
+asked-fixed o s a b out rest p q =
+    let same = p ∙ sym q in
+    (told a b (ap (λ (x : Outcome). x .number) same) (ap (λ (x : Outcome). x .answers) same), ap (λ (x : Outcome). x .output) same)
+
+pub asked-fixed-answer : (o : Outcome) (s out : List ℕ) → FixedAnswer (λ (a : Answer). asked a s out ≡ o)
+asked-fixed-answer o s out a b p q = asked-fixed o s a b out out p q .0

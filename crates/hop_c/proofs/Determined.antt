@@ -1,0 +1,50 @@
+-- Each line of specs/Determined: the law for the call's type of answer, at its outcome. Assumes nothing.
+use mathlib.Core.Path.{_≡_, refl, sym, ap₂, _∙_}
+use Rattle.hop_rule.specs.Fixed.{Fixed, FixedAnswer}
+use Rattle.hop_rule.specs.Records.{placeAfter}
+use Rattle.hop_records.proofs.Answers.{wrote-fixed}
+use Rattle.hop_core.proofs.Answers.{told-fixed, told-fixed-answer, passed-fixed, ran-fixed}
+use Rattle.hop_ask.proofs.Answers.{asked-fixed, asked-fixed-answer}
+use Rattle.hop_c.specs.Determined.{Determined, DeterminedForC}
+
+-- A contract that says what the answer is, and one that says so of the answer and of what is left.
+is-fixed : {R : Type 0} (x : R) → FixedAnswer (λ (r : R). r ≡ x)
+is-fixed x r s p q = p ∙ sym q
+
+both-fixed : {R L : Type 0} (x : R) (y : L) → Fixed (λ (r : R) (l : L). (r ≡ x) × (l ≡ y))
+both-fixed x y r s l m p q = (p .0 ∙ sym (q .0), p .1 ∙ sym (q .1))
+
+pub determined : Determined
+determined = record {
+  make = λ s n. told-fixed _;
+  check = λ s. told-fixed-answer _ _;
+  up = λ s a b. told-fixed _;
+  down = λ s a b. told-fixed _;
+  deliver = λ s w u. told-fixed _;
+  pass = λ s. passed-fixed _;
+  run = λ s k. ran-fixed _;
+  distance = λ s u v. asked-fixed-answer _ _ _;
+  downstream = λ s u v. asked-fixed-answer _ _ _;
+  queue-length = λ s w u. asked-fixed-answer _ _ _;
+  total-queued = λ s. asked-fixed-answer _ _ _;
+  status = λ s out u. asked-fixed _ _;
+  write-event = λ out e. wrote-fixed _;
+  write-record = λ out r. wrote-fixed _;
+  read-event = λ s p. is-fixed _;
+  read-next = λ s p x y q r h k. let same = h .0 ∙ sym (k .0) in (same, h .1 ∙ ap₂ placeAfter same refl ∙ sym (k .1));
+  read-from = λ s p. is-fixed _;
+}
+
+pub determined-for-c : DeterminedForC
+determined-for-c = record {
+  hop-size = λ n. is-fixed _;
+  hop-pass = λ s. both-fixed _ _;
+  hop-run = λ s k. both-fixed _ _;
+  hop-distance = λ s u v. is-fixed _;
+  hop-downstream = λ s u v. is-fixed _;
+  hop-queue-length = λ s w u. is-fixed _;
+  hop-total-queued = λ s. is-fixed _;
+  hop-status = λ s out u. both-fixed _ _;
+  hop-write-event = λ out kind first second. both-fixed _ _;
+  hop-read-event = λ s p. both-fixed _ _;
+}
