@@ -1,15 +1,16 @@
 -- What a call's number says: which refusals did not apply, and so what is known where it is done. Assumes nothing.
-use mathlib.Core.Path.{_≡_, refl, sym, _∙_}
+use mathlib.Core.Path.{_≡_, refl, sym, ap, _∙_}
 use mathlib.Core.Logic.{_≢_, _⊎_, inl, inr}
 use mathlib.Core.Bool.{Bool, true, false}
 use mathlib.Core.List.{List, [], _∷_, _++_}
 use Prim.Native.Nat.{ℕ, _≤_, _<_}
+use native.Mathlib.Decide.{ℕ-discrete}
 use native.Mathlib.Omega.{arith}
 use lib.ListN.{length}
 use borrow.Author.Tests.{eqb-false, ltb-false, not-false}
 use Rattle.hop_rule.specs.Stored.{size, nodes}
 use Rattle.hop_rule.specs.Sound.{isSoundBytes}
-use Rattle.hop_rule.specs.Calls.{Call, Refusal, judge, empty, badCount, short, notSound, onState, refusals, refused, done, outcome}
+use Rattle.hop_rule.specs.Calls.{Call, make, check, up, down, deliver, pass, run, distance, downstream, queueLength, totalQueued, status, writeEvent, Refusal, judge, empty, badCount, short, notSound, onState, refusals, answerAt, refused, done, outcome}
 use Rattle.hop_laws.specs.Fine.{Fine}
 use Rattle.hop_laws.proofs.Tests.{Tells, tells-false, tells-not-so, tells-eq, tells-lt, tells-or, choose-so, choose-else}
 use Rattle.hop_laws.proofs.Sound.{sound-bytes-tells}
@@ -64,6 +65,40 @@ module _ (c : Call) (s out : List ℕ) where
   pub outcome-refused : judge (refusals c s out) ≢ 0 → outcome c s out ≡ refused (judge (refusals c s out)) s out
   unfolding outcome
   outcome-refused f = choose-else (tells-eq (judge (refusals c s out)) 0) _ _ f
+
+  -- What is done has the number 0, so a call's number is what its refusals are judged to be.
+  pub outcome-number : outcome c s out .number ≡ judge (refusals c s out)
+  unfolding done
+  outcome-number = go (ℕ-discrete (judge (refusals c s out)) 0)
+    where
+      done-number : done c s out .number ≡ 0
+      done-number = elim c [
+        | make n ↦ refl
+        | check ↦ refl
+        | up a b ↦ refl
+        | down a b ↦ refl
+        | deliver w u ↦ refl
+        | pass ↦ refl
+        | run k ↦ refl
+        | distance u v ↦ refl
+        | downstream u v ↦ refl
+        | queueLength w u ↦ refl
+        | totalQueued ↦ refl
+        | status u ↦ refl
+        | writeEvent e ↦ refl
+      ]
+
+      go : Dec (judge (refusals c s out) ≡ 0) → outcome c s out .number ≡ judge (refusals c s out)
+      go (yes z) = ap (λ o. o .number) (outcome-done z) ∙ done-number ∙ sym z
+      go (no f) = ap (λ o. o .number) (outcome-refused f)
+
+  -- A refused call has no other answer, so one that has was done.
+  pub answer-done : (i : ℕ) → 0 < answerAt i (outcome c s out) → judge (refusals c s out) ≡ 0
+  answer-done i l = go (ℕ-discrete (judge (refusals c s out)) 0)
+    where
+      go : Dec (judge (refusals c s out) ≡ 0) → judge (refusals c s out) ≡ 0
+      go (yes z) = z
+      go (no f) = absurd (omega (arith, ap (answerAt i) (outcome-refused f)))
 
 -- ---- the state's own refusals
 

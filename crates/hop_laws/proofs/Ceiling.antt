@@ -33,7 +33,7 @@ row-most (suc m) c a f h l e =
     rw (z, mul-comm c m) k
 
 module _ (s : State) (o : Sound s) where
-  none-own : (u : ℕ) → u < s .n → length (s .queue u u) ≡ 0
+  pub none-own : (u : ℕ) → u < s .n → length (s .queue u u) ≡ 0
   none-own u l = ap length (o .down-queues u u l l (λ q. omega (arith, o .diagonal u l)))
 
   pub waiting-for-most : (u : ℕ) → u < s .n → waitingFor s u ≤ s .n * (s .n - 1)
