@@ -16,3 +16,4 @@ pub mod Top
 pub mod Attained
 pub mod Same
 pub mod OnBytes
+pub mod Delivering

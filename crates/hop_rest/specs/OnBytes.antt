@@ -1,29 +1,76 @@
--- Coming to rest, said of bytes and of the public calls alone: what a run leaves of a buffer that check accepts. Uses Walks and hop_rule's Calls.
+-- Coming to rest, said of bytes and of the public calls alone: what a run, and what single deliveries in any order, leave of a buffer that check accepts. Uses Walks, Orders and hop_rule's Calls.
 use mathlib.Core.Path.{_≡_}
-use mathlib.Core.List.{List, []}
+use mathlib.Core.Logic.{_↔_}
+use mathlib.Core.List.{List, [], _∷_, flatten}
 use Prim.Native.Nat.{ℕ, suc, _*_, _-_, _≤_, _<_}
+use lib.ListN.{length}
 use Rattle.hop_rule.specs.Stored.{nodes, read}
-use Rattle.hop_rule.specs.Calls.{Call, check, run, distance, downstream, totalQueued, answerAt, outcome}
+use Rattle.hop_rule.specs.Calls.{Call, check, deliver, run, distance, downstream, queueLength, totalQueued, Outcome, answerAt, restored, outcome}
 use Rattle.hop_rest.specs.Walks.{Walk, HopCount, Nearer}
+use Rattle.hop_rest.specs.Orders.{Queue, deliveries, count, Pass, deliveriesIn}
 
--- The buffer after a run with allowance k, and what a call then answers.
-abbrev pub left : List ℕ → ℕ → List ℕ
-left s k = outcome (run k) s [] .bytes
+-- What a call answers of a buffer, 0 where it is refused.
+abbrev pub asked : Call → List ℕ → ℕ
+asked c s = answerAt 0 (outcome c s [])
 
-abbrev pub asked : Call → List ℕ → ℕ → ℕ
-asked c s k = answerAt 0 (outcome c (left s k) [])
+-- The buffer t has settled over the links of the buffer s:
+pub record SettledBytes (s t : List ℕ) : Type 0 where
+  -- check accepts it, it has as many nodes, and nothing is queued there;
+  pub accepted : outcome check t [] .number ≡ 0
+  pub same-nodes : nodes t ≡ nodes s
+  pub nothing-queued : asked totalQueued t ≡ 0
+  -- each distance asked for is the hop count,
+  pub distances : (u v : ℕ) → u < nodes s → v < nodes s → HopCount (read s) u v (asked (distance u v) t)
+  -- and each downstream the node itself for itself, 255 without a path, and otherwise the lowest-numbered neighbour one hop nearer.
+  pub own : (u : ℕ) → u < nodes s → asked (downstream u u) t ≡ u
+  pub none : (u v : ℕ) → u < nodes s → v < nodes s → ((d : ℕ) → Walk (read s) u v d → ⊥) → asked (downstream u v) t ≡ 255
+  pub next : (u v d : ℕ) → u < nodes s → v < nodes s → suc d < nodes s → HopCount (read s) u v (suc d) → Nearer (read s) u v d (asked (downstream u v) t)
 
+-- ---- a run
+
+-- A run with allowance k settles the buffer s:
 pub record RunSettles (s : List ℕ) (k : ℕ) : Type 0 where
-  -- the run answers 0, with at most n passes and n³(n − 1) deliveries;
+  -- it answers 0, with at most n passes and n³(n − 1) deliveries,
   pub done : outcome (run k) s [] .number ≡ 0
   pub passes-most : answerAt 0 (outcome (run k) s []) ≤ nodes s
   pub deliveries-most : answerAt 1 (outcome (run k) s []) ≤ nodes s * nodes s * nodes s * (nodes s - 1)
-  -- check accepts what it leaves, and nothing is queued there;
-  pub accepted : outcome check (left s k) [] .number ≡ 0
-  pub nothing-queued : asked totalQueued s k ≡ 0
-  -- each distance asked for is the hop count over the links of the buffer as it was,
-  pub distances : (u v : ℕ) → u < nodes s → v < nodes s → HopCount (read s) u v (asked (distance u v) s k)
-  -- and each downstream the node itself for itself, 255 without a path, and otherwise the lowest-numbered neighbour one hop nearer.
-  pub own : (u : ℕ) → u < nodes s → asked (downstream u u) s k ≡ u
-  pub none : (u v : ℕ) → u < nodes s → v < nodes s → ((d : ℕ) → Walk (read s) u v d → ⊥) → asked (downstream u v) s k ≡ 255
-  pub next : (u v d : ℕ) → u < nodes s → v < nodes s → suc d < nodes s → HopCount (read s) u v (suc d) → Nearer (read s) u v d (asked (downstream u v) s k)
+  -- and what it leaves has settled.
+  pub settled : SettledBytes s (outcome (run k) s [] .bytes)
+
+-- ---- single deliveries
+
+-- The call of deliver for a queue, the buffer after such calls one after another, and that none of them is refused.
+abbrev pub delivery : List ℕ → Queue → Outcome
+delivery s q = outcome (deliver (q .sender) (q .receiver)) s []
+
+unfoldable pub delivering : List ℕ → List Queue → List ℕ
+delivering s [] = s
+delivering s (q ∷ qs) = delivering (delivery s q .bytes) qs
+
+abbrev pub NoneRefused : List ℕ → List Queue → Type 0
+NoneRefused s [] = Unit {0}
+NoneRefused s (q ∷ qs) = (delivery s q .number ≡ 0) × NoneRefused (delivery s q .bytes) qs
+
+-- A pass in any order: each queue is named as often as its length is answered when the pass begins. For a node that is not there, or a node with itself, that question is refused and answers 0, so a pass names neither.
+abbrev pub PassBytes : List ℕ → List Queue → Type 0
+PassBytes s qs = (w u : ℕ) → count w u qs ≡ asked (queueLength w u) s
+
+-- Passes one after another.
+abbrev pub PassesBytes : List ℕ → List (List Queue) → Type 0
+PassesBytes s [] = Unit {0}
+PassesBytes s (p ∷ ps) = PassBytes s p × PassesBytes (delivering s p) ps
+
+-- Single deliveries settle the buffer s:
+pub record DeliveriesSettle (s : List ℕ) : Type 0 where
+  -- its passes are those of the state that it holds;
+  pub passes : (qs : List Queue) → PassBytes s qs ↔ Pass (read s) qs
+  -- no delivery of passes one after another is refused, and they are at most n³(n − 1);
+  pub none-refused : (ps : List (List Queue)) → PassesBytes s ps → NoneRefused s (flatten ps)
+  pub deliveries-most : (ps : List (List Queue)) → PassesBytes s ps → deliveriesIn ps ≤ nodes s * nodes s * nodes s * (nodes s - 1)
+  -- after n passes it has settled;
+  pub settles : (ps : List (List Queue)) → PassesBytes s ps → nodes s ≤ length ps → SettledBytes s (delivering s (flatten ps))
+  -- deliveries that are not refused, of passes or not, leave the rule's state after them, and the bytes behind it as they were;
+  pub left : (qs : List Queue) → NoneRefused s qs → delivering s qs ≡ restored (deliveries (read s) qs) s
+  -- and at every moment, whatever was called, check accepts the buffer and at most n²(n − 1) entries wait.
+  pub accepted : (qs : List Queue) → outcome check (delivering s qs) [] .number ≡ 0
+  pub waiting-most : (qs : List Queue) → asked totalQueued (delivering s qs) ≤ nodes s * nodes s * (nodes s - 1)
