@@ -36,6 +36,14 @@ module _ (r : Refusal) (rs : List Refusal) where
       go true e = absurd (omega (arith, judge-applies e))
       go false e = (e, sym (judge-next e) ∙ z)
 
+-- The others matter only where the first does not apply.
+pub judge-rest : (r : Refusal) (rs qs : List Refusal) → (r .applies ≡ false → judge rs ≡ judge qs) → judge (r ∷ rs) ≡ judge (r ∷ qs)
+judge-rest r rs qs h = go (r .applies) refl
+  where
+    go : (b : Bool) → r .applies ≡ b → judge (r ∷ rs) ≡ judge (r ∷ qs)
+    go true e = judge-applies r rs e ∙ sym (judge-applies r qs e)
+    go false e = judge-next r rs e ∙ h e ∙ sym (judge-next r qs e)
+
 -- What is refused by the first of them is refused.
 pub judge-first : (rs more : List Refusal) → judge rs ≢ 0 → judge (rs ++ more) ≡ judge rs
 judge-first [] more f = absurd (f judge-nothing)

@@ -20,6 +20,7 @@ use Rattle.hop_laws.proofs.Sound as tests
 use Rattle.hop_laws.proofs.Same as same
 use Rattle.hop_laws.proofs.Stored as bytes
 use Rattle.hop_laws.proofs.Read as reading
+use Rattle.hop_laws.proofs.Tails as tails
 use Rattle.hop_laws.proofs.Fresh as start
 use Rattle.hop_laws.proofs.Records as records
 use Rattle.hop_laws.proofs.Ceiling as ceiling
@@ -66,6 +67,13 @@ stored-sound t sound r = reading.stored-sound sound r
 -- Storing undoes reading, byte for byte, where the bytes are sound.
 pub stored-read : (s : List ℕ) → size (nodes s) ≤ length s → SoundBytes s → stored (read s) ++ drop (size (nodes s)) s ≡ s
 stored-read s room sound = reading.stored-read s room sound
+
+-- Bytes r behind a form f are not read: f alone is sound exactly where f with r behind it is, and then both are read as one state. (That no call looks at them is in hop_rest.)
+pub tail-sound : (f r : List ℕ) → size (nodes f) ≤ length f → isSoundBytes (f ++ r) ≡ isSoundBytes f
+tail-sound f r room = tails.test-same f r room
+
+pub tail-read : (f r : List ℕ) → size (nodes f) ≤ length f → SoundBytes f → Same (read f) (read (f ++ r))
+tail-read f r room sound = tails.read-same f r room sound
 
 -- Two states that agree below n are sound together and have the same bytes.
 pub sound-same : (s t : State) → Same s t → Sound s → Sound t

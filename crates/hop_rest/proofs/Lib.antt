@@ -12,8 +12,9 @@ pub mod Counts
 pub mod Ascending
 pub mod Settling
 pub mod Run
+pub mod Same
+pub mod Tails
 pub mod Top
 pub mod Attained
-pub mod Same
 pub mod OnBytes
 pub mod Delivering

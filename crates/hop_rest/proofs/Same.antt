@@ -1,15 +1,22 @@
--- Deliveries do not tell apart what is the same below n: from two such states they lead to two such states. Assumes nothing.
-use mathlib.Core.Path.{_≡_, refl, sym, subst, _∙_}
+-- The rule does not tell apart what is the same below n: from two such states its moves lead to two such states, and its counts are equal. Assumes nothing.
+use mathlib.Core.Path.{_≡_, refl, sym, ap, subst, _∙_}
 use mathlib.Core.List.{List, [], _∷_}
 use Prim.Native.Nat.{ℕ, _<_}
+use native.Mathlib.Omega.{arith}
+use lib.Dec.{eqb}
+use lib.ListN.{length}
+use Rattle.hop_rule.specs.Words.{loop, listed}
 use Rattle.hop_rule.specs.State.{State, Entry}
-use Rattle.hop_rule.specs.Rule.{route, recompute, hear, deliver}
+use Rattle.hop_rule.specs.Rule.{route, recompute, hear, deliver, linkUp, cut, recomputeAll, linkDown, pass, total, waitingFor, waitingFrom, reached, passes, made, delivered}
 use Rattle.hop_rule.specs.Sound.{Sound}
 use Rattle.hop_laws.specs.Same.{Same}
+use Rattle.hop_laws.proofs.Words.{loop-both, sum-same, listed-same, joined-same, first-same}
 use Rattle.hop_laws.proofs.Rule.{route-same, deliver-head, deliver-none}
-use Rattle.hop_rest.specs.Orders.{Queue, Nodes, deliveries}
+use Rattle.hop_rest.specs.Orders.{Queue, Nodes, deliveries, ascending}
 use Rattle.hop_rest.proofs.Frame.{deliver-n}
-use Rattle.hop_rest.proofs.Kept.{waiting-below, deliver-keeps-sound}
+use Rattle.hop_rest.proofs.Mended.{recompute-all-n}
+use Rattle.hop_rest.proofs.Kept.{waiting-below, deliver-keeps-sound, pass-keeps-sound}
+use Rattle.hop_rest.proofs.Ascending.{ascending-pass, ascending-deliveries}
 
 module _ {s t : State} (e : Same s t) where
   recompute-same : (u v : ℕ) → u < s .n → v < s .n → Same (recompute s u v) (recompute t u v)
@@ -53,3 +60,90 @@ deliveries-same [] o l e = e
 deliveries-same {s} {t} (q ∷ qs) o l e =
     deliveries-same qs (deliver-keeps-sound s (q .sender) (q .receiver) o (l .0) (l .1)) (subst (λ (m : ℕ). Nodes m qs) (sym (deliver-n s (q .sender) (q .receiver))) (l .2))
     (deliver-same (q .sender) (q .receiver) o (l .0) (l .1) e)
+
+-- ---- links
+
+module _ {s t : State} (e : Same s t) (a b : ℕ) where
+  pub up-same : Same (linkUp s a b) (linkUp t a b)
+  unfolding linkUp
+  up-same = record {
+    n = e .n;
+    link = λ x y lx ly. rw (e .link x y lx ly);
+    distance = e .distance;
+    downstream = e .downstream;
+    view = e .view;
+    queue = λ x y lx ly. rw (all x lx, e .queue x y lx ly);
+  }
+    where
+      -- All that x announces.
+      all : (x : ℕ) → x < s .n → listed {A = Entry} (s .n) (λ v. record { destination = v; value = s .distance x v }) ≡ listed (t .n) (λ v. record { destination = v; value = t .distance x v })
+      all x lx = rw (← e .n) (listed-same (s .n) _ _ (λ v lv. rw (e .distance x v lx lv)))
+
+  cut-same : Same (cut s a b) (cut t a b)
+  unfolding cut
+  cut-same = record {
+    n = e .n;
+    link = λ x y lx ly. rw (e .link x y lx ly);
+    distance = e .distance;
+    downstream = e .downstream;
+    view = λ x y v lx ly lv. rw (e .n, e .view x y v lx ly lv);
+    queue = λ x y lx ly. rw (e .queue x y lx ly);
+  }
+
+pub recompute-all-same : {s t : State} → Same s t → (u : ℕ) → u < s .n → Same (recomputeAll s u) (recomputeAll t u)
+unfolding recomputeAll recompute
+recompute-all-same {s} {t} e u lu =
+    let step : ℕ → State → State = λ v x. recompute x u v in
+    subst (λ (m : ℕ). Same (recomputeAll s u) (loop m step t)) (e .n)
+    (loop-both (λ x y. Same x y × (x .n ≡ s .n)) (s .n) step step s t (e, refl) (λ v x y l p. (recompute-same (p .0) u v (omega arith) (omega arith), p .1)) .0)
+
+pub down-n : (s : State) (a b : ℕ) → linkDown s a b .n ≡ s .n
+unfolding linkDown cut
+down-n s a b = recompute-all-n (recomputeAll (cut s a b) a) b ∙ recompute-all-n (cut s a b) a
+
+pub down-same : {s t : State} → Same s t → (a b : ℕ) → a < s .n → b < s .n → Same (linkDown s a b) (linkDown t a b)
+unfolding linkDown cut
+down-same {s} {t} e a b la lb = recompute-all-same (recompute-all-same (cut-same e a b) a la) b (rw (recompute-all-n (cut s a b) a) lb)
+
+-- ---- passes
+
+module _ {s t : State} (o : Sound s) (e : Same s t) where
+  -- A pass is its deliveries, in ascending order.
+  pub pass-same : Same (pass s) (pass t)
+  unfolding ascending
+  pass-same =
+      let all : ascending s ≡ ascending t = rw (← e .n) (joined-same (s .n) _ _ (λ w lw. joined-same (s .n) _ _ (λ u lu. rw (e .queue w u lw lu)))) in
+      rw (← ascending-deliveries s, ← ascending-deliveries t, ← all) (deliveries-same (ascending s) o (ascending-pass s .nodes) e)
+
+pub passes-same : {s t : State} → Sound s → Same s t → (k : ℕ) → Same (passes s k) (passes t k)
+unfolding passes
+passes-same {s} {t} o e k =
+    loop-both (λ x y. Same x y × Sound x) k (λ i. pass) (λ i. pass) s t (e, o) (λ i x y l p. (pass-same (p .1) (p .0), pass-keeps-sound x (p .1) .0)) .0
+
+-- ---- counts
+
+module _ {s t : State} (e : Same s t) where
+  pub total-same : total s ≡ total t
+  unfolding total
+  total-same = rw (← e .n) (sum-same (s .n) _ _ (λ w lw. sum-same (s .n) _ _ (λ u lu. ap length (e .queue w u lw lu))))
+
+  pub waiting-for-same : (u : ℕ) → u < s .n → waitingFor s u ≡ waitingFor t u
+  unfolding waitingFor
+  waiting-for-same u lu = rw (← e .n) (sum-same (s .n) _ _ (λ w lw. ap length (e .queue w u lw lu)))
+
+  pub waiting-from-same : (u : ℕ) → u < s .n → waitingFrom s u ≡ waitingFrom t u
+  unfolding waitingFrom
+  waiting-from-same u lu = rw (← e .n) (sum-same (s .n) _ _ (λ x lx. ap length (e .queue u x lu lx)))
+
+  pub reached-same : (u : ℕ) → u < s .n → reached s u ≡ reached t u
+  unfolding reached
+  reached-same u lu = rw (← e .n) (sum-same (s .n) _ _ (λ v lv. rw (e .distance u v lu lv)))
+
+module _ {s t : State} (o : Sound s) (e : Same s t) where
+  pub made-same : (k : ℕ) → made s k ≡ made t k
+  unfolding made
+  made-same k = first-same k _ _ (λ j l. ap (λ m. eqb m 0) (total-same (passes-same o e j)))
+
+  pub delivered-same : (k : ℕ) → delivered s k ≡ delivered t k
+  unfolding delivered
+  delivered-same k = sum-same k _ _ (λ j l. total-same (passes-same o e j))
