@@ -14,6 +14,7 @@ pub mod Settling
 pub mod Run
 pub mod Same
 pub mod Tails
+pub mod Ends
 pub mod Top
 pub mod Attained
 pub mod OnBytes

@@ -1,4 +1,4 @@
--- What follows from the definitions, as specs/ states it: from every sound state the net comes to rest, and no call looks behind the form. This file only puts the chapters together. Assumes nothing.
+-- What follows from the definitions, as specs/ states it: from every sound state the net comes to rest, no call looks behind the form, and either end of a link may be named first. This file only puts the chapters together. Assumes nothing.
 use mathlib.Core.Path.{_≡_, sym, subst, _∙_}
 use mathlib.Core.List.{List, _++_}
 use Prim.Native.Nat.{ℕ, _*_, _-_, _≤_}
@@ -11,6 +11,7 @@ use Rattle.hop_rule.specs.Calls.{Call, outcome}
 use Rattle.hop_rest.specs.Orders.{deliveries}
 use Rattle.hop_rest.specs.Rest.{ComesToRest}
 use Rattle.hop_rest.specs.Tails.{form, TailsUnread, NothingRead}
+use Rattle.hop_rest.specs.Ends.{EndsAlike}
 use Rattle.hop_laws.proofs.Ceiling.{waiting-for-most}
 use Rattle.hop_rest.proofs.Right.{over-self}
 use Rattle.hop_rest.proofs.Runs.{deliveries-over}
@@ -19,6 +20,7 @@ use Rattle.hop_rest.proofs.Ascending.{ascending-pass, ascending-deliver
 use Rattle.hop_rest.proofs.Settling.{passes-settle, rest-total, over-total, passes-over}
 use Rattle.hop_rest.proofs.Run.{made-most, made-rest, delivered-most}
 use Rattle.hop_rest.proofs.Tails as tails
+use Rattle.hop_rest.proofs.Ends as ends
 
 -- ---- coming to rest
 
@@ -63,3 +65,8 @@ module _ (c : Call) (f r t out : List ℕ) (room : form c f ≤ length f) where
 -- Making a state looks at no byte.
 pub nothing-read : (n : ℕ) (s out : List ℕ) → NothingRead n s out
 nothing-read = tails.nothing-read
+
+-- ---- the two ends of a link
+
+pub ends-alike : (s out : List ℕ) (a b : ℕ) → EndsAlike s out a b
+ends-alike = ends.ends-alike
