@@ -34,16 +34,6 @@ same-sym e = record {
   queue = λ w u lw lu. sym (e .queue w u (omega arith) (omega arith));
 }
 
-pub same-trans : {s t r : State} → Same s t → Same t r → Same s r
-same-trans e f = record {
-  n = e .n ∙ f .n;
-  link = λ u w lu lw. e .link u w lu lw ∙ f .link u w (omega arith) (omega arith);
-  distance = λ u v lu lv. e .distance u v lu lv ∙ f .distance u v (omega arith) (omega arith);
-  downstream = λ u v lu lv. e .downstream u v lu lv ∙ f .downstream u v (omega arith) (omega arith);
-  view = λ u w v lu lw lv. e .view u w v lu lw lv ∙ f .view u w v (omega arith) (omega arith) (omega arith);
-  queue = λ w u lw lu. e .queue w u lw lu ∙ f .queue w u (omega arith) (omega arith);
-}
-
 module _ {s t : State} (e : Same s t) where
   -- Recompute reads only a node's own links, and its views of the one destination.
   routes-same : (u v : ℕ) → u < s .n → v < s .n → route s u v ≡ route t u v

@@ -1,7 +1,7 @@
 -- Which end of a link is named first does not matter: each end recomputes from its own part of the state and changes only its own part, so that the two can be taken in either order. Assumes nothing.
 use mathlib.Core.Path.{_≡_, refl, sym, ap, subst, _∙_}
 use mathlib.Core.Logic.{_≢_, inl, inr}
-use mathlib.Core.Bool.{Bool, true, false, not}
+use mathlib.Core.Bool.{Bool, true, false}
 use mathlib.Core.List.{List, [], _∷_, _++_}
 use Prim.Native.Nat.{ℕ, _<_}
 use native.Mathlib.Decide.{ℕ-discrete}
@@ -21,7 +21,7 @@ use Rattle.hop_laws.proofs.Tests.{tells-eq, tells-as, tells-same}
 use Rattle.hop_laws.proofs.Words.{loop-both, loop-keeps}
 use Rattle.hop_laws.proofs.Rule.{route-same, recompute-distance-other, recompute-downstream-other, recompute-queue-other, Between, tells-between}
 use Rattle.hop_laws.proofs.Same.{same-refl, stored-same}
-use Rattle.hop_laws.proofs.Calls.{judge-applies, judge-next, judge-rest, outcome-done, outcome-refused, state-fine, state-refused, state-passed}
+use Rattle.hop_laws.proofs.Calls.{judge-applies, judge-next, outcome-done, outcome-refused, state-fine, state-refused, state-passed}
 use Rattle.hop_rest.specs.Ends.{EndsAlike}
 
 -- ---- one node's part of a state

@@ -14,14 +14,14 @@ use Rattle.hop_rule.specs.Rule as rule
 use Rattle.hop_rule.specs.Stored.{size, stored, nodes, read}
 use Rattle.hop_rule.specs.Sound.{SoundBytes}
 use Rattle.hop_rule.specs.Records.{statusRecord}
-use Rattle.hop_rule.specs.Calls.{Call, make, check, up, down, deliver, pass, run, distance, downstream, queueLength, totalQueued, status, writeEvent, Refusal, judge, badCount, noNode, oneNode, isUp, isDown, nothingWaits, onState, refusals, Outcome, refused, answered, changed, recorded, done, outcome}
+use Rattle.hop_rule.specs.Calls.{Call, make, check, up, down, deliver, pass, run, distance, downstream, queueLength, totalQueued, status, writeEvent, Refusal, judge, badCount, noNode, oneNode, isUp, isDown, nothingWaits, onState, refusals, Outcome, refused, answered, changed, done, outcome}
 use Rattle.hop_laws.specs.Same.{Same}
 use Rattle.hop_laws.specs.Fine.{Fine}
 use Rattle.hop_laws.proofs.Stored.{length-stored}
 use Rattle.hop_laws.proofs.Same.{same-refl, stored-same}
 use Rattle.hop_laws.proofs.Tails.{some, nodes-same, test-same, read-same}
 use Rattle.hop_laws.proofs.Calls.{judge-rest, judge-none, outcome-done, outcome-refused, state-fine, state-refused, state-passed}
-use Rattle.hop_rest.specs.Tails.{form, TailUnread, TailsUnread, NothingRead}
+use Rattle.hop_rest.specs.Tails.{form, TailsUnread, NothingRead}
 use Rattle.hop_rest.proofs.Frame.{deliver-n}
 use Rattle.hop_rest.proofs.Kept.{pass-keeps-sound, passes-keeps-sound}
 use Rattle.hop_rest.proofs.Same.{deliver-same, up-same, down-n, down-same, pass-same, passes-same, total-same, waiting-for-same, waiting-from-same, reached-same, made-same, delivered-same}
