@@ -33,7 +33,7 @@ pub record TailUnread (c : Call) (f out : List ℕ) : Type 0 where
   pub bytes : (r : List ℕ) → outcome c (f ++ r) out .bytes ≡ outcome c f out .bytes ++ r
   pub length-kept : length (outcome c f out .bytes) ≡ length f
 
--- That holds of every call and every buffer with room for the call's form. So one form has one answer, whatever follows it.
+-- Of every call, and every buffer with room for the call's form. So one form has one answer, whatever follows it.
 abbrev pub TailsUnread : Type 0
 TailsUnread = (c : Call) (f out : List ℕ) → form c f ≤ length f → TailUnread c f out
 
