@@ -1,8 +1,8 @@
 //! Event records: writing one, reading a run of them. Uses the foreign calls.
 
+use crate::answer::{answered, done};
 use crate::ffi;
 use crate::refusal::Refusal;
-use crate::state::{answered, done};
 
 /// An event. Its numbers are judged by the call that it is given to, see [`State::apply`](crate::State::apply).
 ///

@@ -19,6 +19,7 @@
 //! Without link events, n passes bring any sound state to rest: no queue holds an entry, every distance is the true
 //! number of hops (n for no path), and every downstream is the lowest-numbered neighbour one hop nearer.
 
+mod answer;
 mod event;
 mod ffi;
 mod refusal;

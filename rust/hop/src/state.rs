@@ -1,5 +1,6 @@
-//! The state in a buffer, owned or lent, and the calls on it. Uses the foreign calls.
+//! The state in a buffer, owned or lent, and the calls on it. Uses the foreign calls and the events.
 
+use crate::answer::{answered, done};
 use crate::event::Event;
 use crate::ffi;
 use crate::refusal::Refusal;
@@ -38,18 +39,6 @@ pub struct Ran {
     pub passes: usize,
     /// The entries delivered in them.
     pub deliveries: usize,
-}
-
-pub(crate) fn done(code: u32) -> Result<(), Refusal> {
-    match code {
-        0 => Ok(()),
-        code => Err(Refusal::of_number(code).expect("the archive gives the numbers that this crate knows")),
-    }
-}
-
-pub(crate) fn answered(answer: ffi::Answer) -> Result<usize, Refusal> {
-    done(answer.code)?;
-    Ok(answer.value as usize)
 }
 
 impl State<Vec<u8>> {
