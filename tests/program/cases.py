@@ -1,10 +1,13 @@
 #!/usr/bin/env python3
-"""What the program must print, from document 01 alone: a second model of it, and the scripts that the program crates are run on.
+"""What the program must print, from document 01 alone: a model of it that shares no code with the core and the second implementation,
+the scripts that the built program is run on, and the texts that it must print for them.
 
-    python3 tests/program/cases.py            says which crate's stdin or stdout differs from what stands here
-    python3 tests/program/cases.py --write    writes them
+    python3 tests/program/cases.py [PROGRAM]    runs target/bin/hop_program, or another, on each; the last line is 'N passed, M failed'
+    python3 tests/program/cases.py --write      writes the files: cases/NAME.stdin and NAME.stdout, and those of crates/hop_program
+
+A case passes where its two files are what stands here, and the program prints the one for the other and exits with 0.
 """
-import os, sys
+import array, fcntl, os, subprocess, sys, termios, time
 
 LIMIT, ROOM = 16384, 61966          # bytes of the script that are read; bytes of the state's buffer
 
@@ -174,30 +177,103 @@ MAKES = (make(40) + make(28) + make(27) + b"".join(up(a, b) for a in range(27) f
 FRONT = make(2) + make(5) + up(0, 1) + up(1, 2) + up(2, 3)
 CUT = FRONT + PASS * ((LIMIT - 4 - len(FRONT)) // 4) + up(3, 4) + PASS * 10
 
+# The last record ends at the limit; what follows would cut every link, and is not read.
+BEHIND = FRONT + (deliver(0, 1) + deliver(1, 0)) * 1021 + deliver(2, 1) + PASS + down(0, 1) + down(1, 2) + down(2, 3)
+
+# A record that ends the reading, behind the worked ones.
+FEW = WORKED + up(0, 1)[:3]                                            # fewer than four bytes
+BODY = WORKED + down(0, 1)[:-1]                                        # the body's last byte is not there
+KIND = WORKED + record(1, 0, 0, 0, 0, 0)[:4] + PASS + PASS             # a status record is no event, cut or not; the passes are not read
+LENGTH = WORKED + (8).to_bytes(2, "little") + down(0, 1)[2:]           # two bytes too long, which are not there: the length is told first
+
+# It comes in pieces of three bytes, so that no piece is a whole record.
+PIECES = make(4) + up(0, 1) + up(1, 2) + up(2, 3) + deliver(2, 1) + PASS + up(3, 0) + PASS + PASS + down(1, 2) + deliver(0, 3) + PASS * 4
+
 CASES = {
-    "hop_program": WORKED,
-    "hop_program_nothing": b"",
-    "hop_program_refusals": REFUSALS,
-    "hop_program_makes": MAKES,
-    "hop_program_passes": PASS * 4096,
-    "hop_program_cut": CUT,
+    "worked": WORKED,
+    "nothing": b"",
+    "refusals": REFUSALS,
+    "makes": MAKES,
+    "passes": PASS * 4096,                                             # all that is read, and not a byte more
+    "cut": CUT,
+    "behind": BEHIND,
+    "few": FEW,
+    "body": BODY,
+    "kind": KIND,
+    "length": LENGTH,
+    "pieces": PIECES,
 }
+IN_PIECES = {"pieces": 3}
+PATIENCE = 20                                                          # seconds
+
+ROOT = os.path.normpath(os.path.join(os.path.dirname(os.path.abspath(__file__)), "..", ".."))
+FOLDER = os.path.join(ROOT, "tests", "program", "cases")
 
 
-def main():
-    crates = os.path.join(os.path.dirname(os.path.abspath(__file__)), "..", "..", "crates")
-    wrong = 0
-    for crate, script in CASES.items():
-        for name, data in ("stdin", script), ("stdout", text(script).encode()):
-            path = os.path.join(crates, crate, name)
-            if "--write" in sys.argv:
-                open(path, "wb").write(data)
-            elif not os.path.exists(path) or open(path, "rb").read() != data:
-                wrong += 1
-                print(f"{crate}/{name} differs")
-    print(f"{2 * len(CASES) - wrong} passed, {wrong} failed")
-    return wrong != 0
+def file_of(name, end):
+    """The worked script is the program crate's own."""
+    return os.path.join(ROOT, "crates", "hop_program", end) if name == "worked" else os.path.join(FOLDER, f"{name}.{end}")
+
+
+def send(pipe, script, piece):
+    """Sends a piece only when the one before it was read."""
+    end, unread = time.monotonic() + PATIENCE, array.array("i", [0])
+    for at in range(0, len(script), piece):
+        os.write(pipe, script[at:at + piece])
+        while True:
+            fcntl.ioctl(pipe, termios.FIONREAD, unread)
+            if unread[0] == 0:
+                break
+            if time.monotonic() > end:
+                raise TimeoutError
+            time.sleep(0.0005)
+
+
+def wrong_with(program, name, script, should):
+    """Why the case does not pass, or nothing."""
+    for end, data in ("stdin", script), ("stdout", should):
+        path = file_of(name, end)
+        if not os.path.isfile(path) or open(path, "rb").read() != data:
+            return f"{os.path.relpath(path, ROOT)} is not what the model says"
+    try:
+        child = subprocess.Popen([program], stdin=subprocess.PIPE, stdout=subprocess.PIPE)
+    except OSError as why:
+        return f"the program does not start: {why}"
+    try:
+        if name in IN_PIECES:
+            send(child.stdin.fileno(), script, IN_PIECES[name])
+        printed, _ = child.communicate(None if name in IN_PIECES else script, PATIENCE)
+    except (OSError, subprocess.TimeoutExpired) as why:
+        child.kill()
+        child.communicate()
+        return f"the program does not read or does not end: {why!r}"
+    if child.returncode != 0:
+        return f"the program ended with {child.returncode}"
+    if printed != should:
+        lines = list(zip(printed.split(b"\n"), should.split(b"\n")))
+        at = next((k for k, (a, b) in enumerate(lines) if a != b), len(lines))
+        return f"line {at + 1} of what the program prints is not that of {os.path.relpath(file_of(name, 'stdout'), ROOT)}"
+    return None
+
+
+def main(words):
+    if words == ["--write"]:
+        for name, script in CASES.items():
+            for end, data in ("stdin", script), ("stdout", text(script).encode()):
+                open(file_of(name, end), "wb").write(data)
+        return 0
+    program = os.path.abspath(words[0]) if words else os.path.join(ROOT, "target", "bin", "hop_program")
+    passed = failed = 0
+    for name, script in CASES.items():
+        wrong = wrong_with(program, name, script, text(script).encode())
+        print(f"{name}: {wrong or 'as expected'}")
+        passed, failed = passed + (wrong is None), failed + (wrong is not None)
+    for left in sorted(set(os.listdir(FOLDER)) - {f"{name}.{end}" for name in CASES for end in ("stdin", "stdout")}):
+        print(f"{left}: no case has this file")
+        failed += 1
+    print(f"{passed} passed, {failed} failed")
+    return failed != 0
 
 
 if __name__ == "__main__":
-    sys.exit(main())
+    sys.exit(main(sys.argv[1:]))
