@@ -1,4 +1,4 @@
-# Needs the Rattle kit (`rt` on the path), and cargo and a C compiler for the comparison. Nothing is fetched.
+# Needs the Rattle kit (`rt` on the path), and cargo, a C and a C++ compiler and Python 3 beside the proofs. Nothing is fetched.
 .PHONY: run test
 
 # The main job: the program replays the worked script.
@@ -6,7 +6,7 @@ run:
 	@rt check hop_program
 	@target/bin/hop_program < crates/hop_program/stdin
 
-# Every check: layout, proofs, must-fail edits, programs, and the comparison. The last line is 'N passed, M failed'.
+# The gate: every check that is quick; tests/gate names its parts. The last line is 'N passed, M failed'.
 test:
 	@tests/gate
 

@@ -1,8 +1,10 @@
-# The Rust and C side of the core: comparison, benchmarks, example, sanitizers. Needs cargo and a C compiler.
+# The Rust, C and Python side of the core: comparison, program cases, benchmarks, example, sanitizers.
+# Needs cargo, a C and a C++ compiler and Python 3, and for all that links the archive or runs the program x86-64.
 # The main Makefile includes it at its end; alone it is `make -f make/harness.mk TARGET` in the root of the repository.
-.PHONY: compare selftest must-notice valgrind asan bench bench-test example header rust-test
+.PHONY: compare program-test selftest must-notice valgrind asan bench bench-test example header header-c header-cxx \
+	rust-test always
 
-# The archive under test, and the program. Either can be another one.
+# The archive under test, and the program. Either can be another one, which is then taken as it is.
 HOP_ARCHIVE ?= target/staticlib/libhop_c.a
 HOP_PROGRAM ?= target/bin/hop_program
 # What the comparison is asked: --seconds N, --cases N, --seed N, --group NAME, --case N, --skip NAME, --first, --list.
@@ -11,12 +13,16 @@ COMPARE ?= --seconds 60
 HARNESS_OUT := build/harness
 HARNESS_BIN := build/cargo/release
 C_FLAGS := -std=c11 -Wall -Wextra -Wpedantic -Werror -Iinclude
-HARNESS_CARGO = HOP_ARCHIVE='$(HOP_ARCHIVE)' cargo
+# For cargo: where the archive stands, and where the recipes look for what is built.
+LINKED = HOP_ARCHIVE='$(HOP_ARCHIVE)' CARGO_TARGET_DIR=build/cargo
+UNLINKED = HOP_ARCHIVE='$(or $(wildcard $(HOP_ARCHIVE)),none)' CARGO_TARGET_DIR=build/cargo
 
-target/staticlib/libhop_c.a:
+# Written anew where a source is younger; a folder is younger where a file came or went.
+target/staticlib/libhop_c.a: crates.txt $(shell find crates -type d -o -name '*.rt' -o -name '*.antt')
 	@rt staticlib hop_c
 
-target/bin/hop_program:
+# rt itself finds out whether a source changed.
+target/bin/hop_program: always
 	@rt check hop_program
 
 $(HARNESS_OUT):
@@ -24,30 +30,41 @@ $(HARNESS_OUT):
 
 # The core against the second implementation. The last line is 'N passed, M failed'.
 compare: $(HOP_ARCHIVE) $(HOP_PROGRAM)
-	@$(HARNESS_CARGO) build --quiet --release -p hop_harness
+	@$(LINKED) cargo build --quiet --release -p hop_harness
 	@$(HARNESS_BIN)/compare --program $(HOP_PROGRAM) $(COMPARE)
+
+# The program on the scripts of tests/program/cases, against the texts beside them. The last line is 'N passed, M failed'.
+program-test: $(HOP_PROGRAM)
+	@python3 tests/program/cases.py $(HOP_PROGRAM)
 
 # The second implementation against document 01's own numbers. Needs no archive.
 selftest:
-	@HOP_ARCHIVE='$(or $(wildcard $(HOP_ARCHIVE)),none)' cargo build --quiet --release -p hop_harness
+	@$(UNLINKED) cargo build --quiet --release -p hop_harness
 	@$(HARNESS_BIN)/compare --selftest
 
 # The comparison itself: it must notice each of many wrong cores. Needs no archive; takes some minutes.
 must-notice:
 	@harness/must-notice/run
 
-# The safe Rust crate: its tests and the examples of its documentation.
+# The safe Rust crate: its tests and the examples of its documentation. The last line is 'N passed, M failed'.
 rust-test: $(HOP_ARCHIVE)
-	@$(HARNESS_CARGO) test --quiet -p hop
+	@$(LINKED) tests/cargo-test --quiet -p hop
 
 # The header by itself, as C and as C++.
-header:
+header: header-c header-cxx
+
+header-c:
 	@printf '#include "hop.h"\n' | $(CC) $(C_FLAGS) -x c -fsyntax-only -
+
+header-cxx:
 	@printf '#include "hop.h"\n' | $(CXX) -std=c++11 -Wall -Wextra -Wpedantic -Werror -Iinclude -x c++ -fsyntax-only -
 
+# The C example: what it prints is shown, and held to the text beside it.
+RING := $(HARNESS_OUT)/ring
 example: $(HOP_ARCHIVE) | $(HARNESS_OUT)
-	@$(CC) $(C_FLAGS) -O2 examples/ring.c $(HOP_ARCHIVE) -o $(HARNESS_OUT)/ring
-	@$(HARNESS_OUT)/ring
+	@$(CC) $(C_FLAGS) -O2 examples/ring.c $(HOP_ARCHIVE) -o $(RING)
+	@$(RING) > $(RING).stdout; status=$$?; cat $(RING).stdout; exit $$status
+	@diff examples/ring.stdout $(RING).stdout
 
 # What the sanitizers run: the comparison with few cases of each group, without those that are all-or-nothing and long.
 # Its fences have closed pages on both sides with or without them.
@@ -58,7 +75,7 @@ FEW := --cases 5 --skip three-nodes --skip every-node-count --skip every-byte --
 valgrind: $(HOP_ARCHIVE) $(HOP_PROGRAM) | $(HARNESS_OUT)
 	@$(CC) $(C_FLAGS) -O1 -g harness/c/drive.c $(HOP_ARCHIVE) -o $(HARNESS_OUT)/drive
 	@valgrind --quiet --leak-check=full --error-exitcode=1 $(HARNESS_OUT)/drive
-	@$(HARNESS_CARGO) build --quiet --release -p hop_harness
+	@$(LINKED) cargo build --quiet --release -p hop_harness
 	@valgrind --quiet --error-exitcode=1 $(HARNESS_BIN)/compare --program $(HOP_PROGRAM) $(FEW)
 
 # The same under the address sanitizer, and from C under the one for undefined behaviour too. The archive is not
@@ -69,16 +86,17 @@ asan: $(HOP_ARCHIVE) $(HOP_PROGRAM) | $(HARNESS_OUT)
 	@$(CC) $(C_FLAGS) -O1 -g -fsanitize=address,undefined -fno-sanitize-recover=all \
 		harness/c/drive.c $(HOP_ARCHIVE) -o $(HARNESS_OUT)/drive-asan
 	@$(HARNESS_OUT)/drive-asan
-	@RUSTC_BOOTSTRAP=1 RUSTFLAGS=-Zsanitizer=address $(HARNESS_CARGO) build --quiet --release -p hop_harness \
+	@RUSTC_BOOTSTRAP=1 RUSTFLAGS=-Zsanitizer=address $(LINKED) cargo build --quiet --release -p hop_harness \
 		--target $(ASAN_TARGET) --target-dir build/asan
 	@build/asan/$(ASAN_TARGET)/release/compare --program $(HOP_PROGRAM) $(FEW)
 
 # The safe implementation that the core is timed against, held to the second one. Needs no archive.
+# The last line is 'N passed, M failed'.
 bench-test:
-	@HOP_ARCHIVE='$(or $(wildcard $(HOP_ARCHIVE)),none)' cargo test --quiet --release -p hop_bench
+	@$(UNLINKED) tests/cargo-test --quiet --release -p hop_bench
 
 # Ratios of the core's time to a careful safe Rust implementation's, every byte equal first. BENCH: a word of the rows'
 # names (check, pass, records, ..) for these alone, or --itself for the safe implementation against itself.
 bench: $(HOP_ARCHIVE)
-	@$(HARNESS_CARGO) build --quiet --release -p hop_bench
+	@$(LINKED) cargo build --quiet --release -p hop_bench
 	@$(HARNESS_BIN)/bench $(BENCH)
