@@ -13,9 +13,9 @@ COMPARE ?= --seconds 60
 HARNESS_OUT := build/harness
 HARNESS_BIN := build/cargo/release
 C_FLAGS := -std=c11 -Wall -Wextra -Wpedantic -Werror -Iinclude
-# For cargo: where the archive stands, and where the recipes look for what is built.
+# For cargo: with the archive, and without any; a folder each, so that neither builds the other's again.
 LINKED = HOP_ARCHIVE='$(HOP_ARCHIVE)' CARGO_TARGET_DIR=build/cargo
-UNLINKED = HOP_ARCHIVE='$(or $(wildcard $(HOP_ARCHIVE)),none)' CARGO_TARGET_DIR=build/cargo
+UNLINKED = HOP_ARCHIVE=none CARGO_TARGET_DIR=build/unlinked
 
 # Written anew where a source is younger; a folder is younger where a file came or went.
 target/staticlib/libhop_c.a: crates.txt $(shell find crates -type d -o -name '*.rt' -o -name '*.antt')
@@ -40,7 +40,7 @@ program-test: $(HOP_PROGRAM)
 # The second implementation against document 01's own numbers. Needs no archive.
 selftest:
 	@$(UNLINKED) cargo build --quiet --release -p hop_harness
-	@$(HARNESS_BIN)/compare --selftest
+	@build/unlinked/release/compare --selftest
 
 # The comparison itself: it must notice each of many wrong cores. Needs no archive; takes some minutes.
 must-notice:
