@@ -1,11 +1,19 @@
 -- Each line of specs/Determined: the law for the call's type of answer, at its outcome. Assumes nothing.
-use mathlib.Core.Path.{_≡_, refl, sym, ap₂, _∙_}
+use mathlib.Core.Path.{_≡_, refl, sym, ap, ap₂, _∙_}
+use mathlib.Core.Logic.{_≢_}
+use mathlib.Core.List.{List, []}
+use Prim.Native.Nat.{ℕ, _<_}
+use native.Mathlib.Omega.{arith}
+use lib.ListN.{length}
 use Rattle.hop_rule.specs.Fixed.{Fixed, FixedAnswer}
 use Rattle.hop_rule.specs.Records.{placeAfter}
+use Rattle.hop_rule.specs.Calls as call
+use Rattle.hop_rule.specs.Calls.{Call, Outcome, done, outcome}
+use Rattle.hop_laws.proofs.Calls.{done-answers}
 use Rattle.hop_records.proofs.Answers.{wrote-fixed}
 use Rattle.hop_core.proofs.Answers.{told-fixed, told-fixed-answer, passed-fixed, ran-fixed}
 use Rattle.hop_ask.proofs.Answers.{asked-fixed, asked-fixed-answer}
-use Rattle.hop_c.specs.Determined.{Determined, DeterminedForC}
+use Rattle.hop_c.specs.Determined.{Determined, DeterminedForC, NoneRefusedWith0}
 
 -- A contract that says what the answer is, and one that says so of the answer and of what is left.
 is-fixed : {R : Type 0} (x : R) → FixedAnswer (λ (r : R). r ≡ x)
@@ -47,4 +55,23 @@ determined-for-c = record {
   hop-status = λ s out u. both-fixed _ _;
   hop-write-event = λ out kind first second. both-fixed _ _;
   hop-read-event = λ s p. both-fixed _ _;
+}
+
+-- An outcome with the number 0 and no answer is not that of a call that has one when it is done.
+has-answer : (c : Call) (s out : List ℕ) {o : Outcome} → 0 < length (done c s out .answers) → o .number ≡ 0 → length (o .answers) ≡ 0 → o ≢ outcome c s out
+has-answer c s out some z none e =
+    let answers = ap (λ (p : Outcome). p .answers) e ∙ done-answers c s out (sym (ap (λ (p : Outcome). p .number) e) ∙ z) in
+    omega (arith, ap length answers)
+
+pub none-refused-with-0 : NoneRefusedWith0
+unfolding done
+none-refused-with-0 = record {
+  pass = λ s t. has-answer call.pass s [] (omega arith) refl refl;
+  run = λ s t k. has-answer (call.run k) s [] (omega arith) refl refl;
+  distance = λ s t out u v. has-answer (call.distance u v) s [] (omega arith) refl refl;
+  downstream = λ s t out u v. has-answer (call.downstream u v) s [] (omega arith) refl refl;
+  queue-length = λ s t out w u. has-answer (call.queueLength w u) s [] (omega arith) refl refl;
+  total-queued = λ s t out. has-answer call.totalQueued s [] (omega arith) refl refl;
+  status = λ s t out left u. has-answer (call.status u) s out (omega arith) refl refl;
+  write-event = λ out left e. has-answer (call.writeEvent e) [] out (omega arith) refl refl;
 }

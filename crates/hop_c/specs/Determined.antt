@@ -1,6 +1,7 @@
 -- 01, 'What the contracts have to settle', for every public call: two answers, and two sets of bytes left in the buffers that it may write to, that its contract allows at the same entry are equal.
 -- One line for each call. What stands within `Fixed` is the call's contract, with the answer and what is left as its arguments; a buffer that is lent to be read only has one set of bytes. Proved in proofs/Determined.
 use mathlib.Core.Path.{_≡_}
+use mathlib.Core.Logic.{_≢_}
 use mathlib.Core.List.{List, []}
 use Prim.Native.Nat.{ℕ}
 use Rattle.hop_rule.specs.declared.Event.{Event}
@@ -10,14 +11,18 @@ use Rattle.hop_rule.specs.Calls as call
 use Rattle.hop_rule.specs.Calls.{outcome}
 use Rattle.hop_rule.specs.Fixed.{Fixed, FixedAnswer}
 use Rattle.hop_records.specs.declared.Written.{Written}
+use Rattle.hop_records.specs.declared.Written.the-variants as answer-of-writing
 use Rattle.hop_records.specs.Writing.{wrote, tried}
 use Rattle.hop_reader.specs.declared.Step.{Step}
 use Rattle.hop_reader.specs.Stepping.{stepAt}
 use Rattle.hop_core.specs.declared.PassAnswer.{PassAnswer}
+use Rattle.hop_core.specs.declared.PassAnswer.the-variants as answer-of-pass
 use Rattle.hop_core.specs.declared.RunAnswer.{RunAnswer}
+use Rattle.hop_core.specs.declared.RunAnswer.the-variants as answer-of-run
 use Rattle.hop_core.specs.Answers as core
 use Rattle.hop_core.specs.Answers.{told, passed}
 use Rattle.hop_ask.specs.declared.Answer.{Answer}
+use Rattle.hop_ask.specs.declared.Answer.the-variants.{Refused}
 use Rattle.hop_ask.specs.Answers.{asked}
 use Rattle.hop_c.specs.declared.HopAnswer.{HopAnswer}
 use Rattle.hop_c.specs.declared.HopRan.{HopRan}
@@ -59,3 +64,14 @@ pub record DeterminedForC : Type 0 where
   pub hop-write-event : (out : List ℕ) (kind first second : ℕ)
       → Fixed (λ (a : HopAnswer) (left : List ℕ). (a ≡ answer (wroteEvent kind first second out)) × (left ≡ wroteEvent kind first second out .output))
   pub hop-read-event : (s : List ℕ) (p : ℕ) → Fixed (λ (a : HopEvent) (q : ℕ). (a ≡ reading (readEvent s p)) × (q ≡ placeAfter (readEvent s p) p))
+
+-- And none of them lets a call answer that it is refused with 0, which means done: a node's distance to itself, an empty queue, a pass at rest are values.
+pub record NoneRefusedWith0 : Type 0 where
+  pub pass : (s t : List ℕ) → passed (answer-of-pass.Refused 0) t ≢ outcome call.pass s []
+  pub run : (s t : List ℕ) (k : ℕ) → core.ran (answer-of-run.Refused 0) t ≢ outcome (call.run k) s []
+  pub distance : (s t out : List ℕ) (u v : ℕ) → asked (Refused 0) t out ≢ outcome (call.distance u v) s []
+  pub downstream : (s t out : List ℕ) (u v : ℕ) → asked (Refused 0) t out ≢ outcome (call.downstream u v) s []
+  pub queue-length : (s t out : List ℕ) (w u : ℕ) → asked (Refused 0) t out ≢ outcome (call.queueLength w u) s []
+  pub total-queued : (s t out : List ℕ) → asked (Refused 0) t out ≢ outcome call.totalQueued s []
+  pub status : (s t out left : List ℕ) (u : ℕ) → asked (Refused 0) t left ≢ outcome (call.status u) s out
+  pub write-event : (out left : List ℕ) (e : Event) → wrote (answer-of-writing.Refused 0) left ≢ outcome (call.writeEvent e) [] out

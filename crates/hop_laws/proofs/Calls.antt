@@ -100,6 +100,10 @@ module _ (c : Call) (s out : List ℕ) where
       go (yes z) = ap (λ o. o .number) (outcome-done z) ∙ done-number ∙ sym z
       go (no f) = ap (λ o. o .number) (outcome-refused f)
 
+  -- The number 0 is 'done', with the answers that the call then has.
+  pub done-answers : outcome c s out .number ≡ 0 → outcome c s out .answers ≡ done c s out .answers
+  done-answers z = ap (λ o. o .answers) (outcome-done (sym outcome-number ∙ z))
+
   -- A refused call has no other answer, so one that has was done.
   pub answer-done : (i : ℕ) → 0 < answerAt i (outcome c s out) → judge (refusals c s out) ≡ 0
   answer-done i l = go (ℕ-discrete (judge (refusals c s out)) 0)
@@ -149,9 +153,3 @@ module _ (s : List ℕ) (more : List Refusal) where
 
   pub state-passed : judge (onState s []) ≡ 0 → judge (onState s more) ≡ judge more
   state-passed z = judge-passed (onState s []) more (omega arith) z
-
--- ---- determinacy
-
--- A call's contract is an equation between its outcome and a definition at its inputs. So any two outcomes that it allows are equal.
-pub determined : {A : Type 0} (o : A) {p q : A} → p ≡ o → q ≡ o → p ≡ q
-determined o e f = e ∙ sym f

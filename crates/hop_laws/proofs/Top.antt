@@ -144,7 +144,3 @@ state-refused s more f = calls.state-refused s more f
 
 pub state-passed : (s : List ℕ) (more : List Refusal) → judge (onState s []) ≡ 0 → judge (onState s more) ≡ judge more
 state-passed s more z = calls.state-passed s more z
-
--- Each contract says that a call's outcome equals its definition at the call's inputs; so any two outcomes that it allows are equal.
-pub determined : {A : Type 0} (o : A) {p q : A} → p ≡ o → q ≡ o → p ≡ q
-determined o e f = calls.determined o e f
