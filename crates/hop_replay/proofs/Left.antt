@@ -13,8 +13,10 @@ use Rattle.hop_rule.proofs.Reading.{the-type}
 use Rattle.hop_rule.specs.declared.Event.{Event}
 use Rattle.hop_rule.specs.declared.Reading.{Reading}
 use Rattle.hop_rule.specs.declared.Reading.the-variants.{Found, End, Refused}
-use Rattle.hop_rule.specs.Records.{readEvent}
+use Rattle.hop_rule.specs.Records.{readEvent, placeAfter}
 use Rattle.hop_rule.specs.Calls.{outcome}
+use Rattle.hop_reader.specs.declared.Step.{Step}
+use Rattle.hop_reader.specs.Stepping.{stepAt}
 use Rattle.hop_laws.proofs.Records.{found-place}
 use Rattle.hop_text.specs.Text.{eventLine}
 use Rattle.hop_text.specs.Writing.{Ends, Wrote}
@@ -94,47 +96,49 @@ pub record Midway (script s₀ before : List ℕ) (from : ℕ) (s here : List �
   pub left : Left (eventsOf script s₀) before from (events (suc more) script p ordinal s) here at
 
 pub midway-start : (script s l : List ℕ) (p : ℕ) → Midway script s l p s l p 0 1
-midway-start script s l p = record {
-  more = length script;
-  enough = omega arith;
-  within = omega arith;
-  counted = omega arith;
-  same-state = refl;
-  left = left-whole _ l p;
-}
+midway-start script s l p = record { more = length script; enough = omega arith; within = omega arith; counted = omega arith; same-state = refl; left = left-whole _ l p }
 
 module _ {script s₀ before : List ℕ} {from : ℕ} {s here : List ℕ} {at p ordinal : ℕ} (m : Midway script s₀ before from s here at p ordinal) where
-  pub midway-length : length here ≡ length before
-  midway-length = left-length (m .left)
+  -- What the reader's step says of the record here.
+  module _ {step : Step} (h : step ≡ stepAt script p) where
+    step-read : {r : Reading} → step .reading ≡ r → readEvent script p ≡ r
+    step-read k = ap (λ (t : Step). t .reading) (sym h) ∙ k
 
-  -- A record that is found: its line has an end, and behind it the loop stands at the next place.
-  module _ {e : Event} {q : ℕ} (found : readEvent script p ≡ Found e q) where
-    pub found-ends : Ends (eventsOf script s₀ .text) from → Ends (appliedLine ordinal e s) at
-    found-ends ends = ends-first _ (rw (events-found (m .more) script p ordinal s found) at (left-ends ends (m .left)))
+    -- A record that is found: its line has an end, and behind it the loop stands at the next place.
+    module _ {e : Event} {q : ℕ} (found : step .reading ≡ Found e q) where
+      pub found-ends : Ends (eventsOf script s₀ .text) from → Ends (appliedLine ordinal e s) at
+      found-ends ends = ends-first _ (rw (events-found (m .more) script p ordinal s (step-read found)) at (left-ends ends (m .left)))
 
-    pub found-next : {t there : List ℕ} {next : ℕ} → Wrote (appliedLine ordinal e s) here at there next → t ≡ outcome (callOf e) s [] .bytes → length t ≡ length s
-        → Midway script s₀ before from t there next q (ordinal + 1)
-    found-next {t} w b same =
-        let (after, within) = found-place script p found in
-        let fewer : suc (m .more - 1) ≡ m .more = omega (arith, m .enough) in
-        record {
-          more = m .more - 1;
-          enough = omega (arith, m .enough);
-          within = within;
-          counted = omega (arith, m .counted);
-          same-state = same ∙ m .same-state;
-          left = rw (fewer, b, add-one ordinal) (left-line (m .left) (events-found (m .more) script p ordinal s found) w);
-        }
+      step-next : step .next ≡ q
+      unfolding placeAfter
+      step-next = rw (h, step-read found)
 
-  -- The plain end: nothing is left.
-  pub end-done : readEvent script p ≡ End → Wrote (eventsOf script s₀ .text) before from here at × (s ≡ eventsOf script s₀ .bytes)
-  end-done h = left-done (m .left) (events-end (m .more) script p ordinal s h) (wrote-nothing here at)
+      pub found-on : (p + 4 ≤ step .next) × (step .next ≤ length script)
+      found-on = rw step-next (found-place script p (step-read found))
 
-  -- A record that is refused: one line is left.
-  module _ {c : ℕ} (refused : readEvent script p ≡ Refused c) where
-    pub refused-ends : Ends (eventsOf script s₀ .text) from → Ends (eventLine ordinal 0 c (queued s)) at
-    refused-ends ends = rw (events-refused (m .more) script p ordinal s refused) at (left-ends ends (m .left))
+      pub found-next : {t there : List ℕ} {next : ℕ} → Wrote (appliedLine ordinal e s) here at there next → t ≡ outcome (callOf e) s [] .bytes → length t ≡ length s
+          → Midway script s₀ before from t there next (step .next) (ordinal + 1)
+      found-next {t} w b same =
+          let (after, within) = found-on in
+          let fewer : suc (m .more - 1) ≡ m .more = omega (arith, m .enough) in
+          record {
+            more = m .more - 1;
+            enough = omega (arith, m .enough);
+            within = within;
+            counted = omega (arith, m .counted);
+            same-state = same ∙ m .same-state;
+            left = rw (step-next, fewer, b, add-one ordinal) (left-line (m .left) (events-found (m .more) script p ordinal s (step-read found)) w);
+          }
 
-    pub refused-done : {there : List ℕ} {next : ℕ} → Wrote (eventLine ordinal 0 c (queued s)) here at there next
-        → Wrote (eventsOf script s₀ .text) before from there next × (s ≡ eventsOf script s₀ .bytes)
-    refused-done w = left-done (m .left) (events-refused (m .more) script p ordinal s refused) w
+    -- The plain end: nothing is left.
+    pub end-done : step .reading ≡ End → Wrote (eventsOf script s₀ .text) before from here at × (s ≡ eventsOf script s₀ .bytes)
+    end-done end = left-done (m .left) (events-end (m .more) script p ordinal s (step-read end)) (wrote-nothing here at)
+
+    -- A record that is refused: one line is left.
+    module _ {c : ℕ} (refused : step .reading ≡ Refused c) where
+      pub refused-ends : Ends (eventsOf script s₀ .text) from → Ends (eventLine ordinal 0 c (queued s)) at
+      refused-ends ends = rw (events-refused (m .more) script p ordinal s (step-read refused)) at (left-ends ends (m .left))
+
+      pub refused-done : {there : List ℕ} {next : ℕ} → Wrote (eventLine ordinal 0 c (queued s)) here at there next
+          → Wrote (eventsOf script s₀ .text) before from there next × (s ≡ eventsOf script s₀ .bytes)
+      refused-done w = left-done (m .left) (events-refused (m .more) script p ordinal s (step-read refused)) w

@@ -5,7 +5,7 @@ use hop_ask::total_queued;
 use hop_cells::get2;
 use hop_cells::wide;
 use hop_core::PassAnswer;
-use hop_records::read_event;
+use hop_reader::read_from;
 use hop_rule::Event;
 use hop_rule::Reading;
 use hop_rule::Table;
@@ -88,15 +88,16 @@ fn put_events(script: &[u8], state: &mut [u8], out: &mut [u8], at: usize) -> usi
     let mut place = 0;
     let mut ordinal = 1;
     loop {
-        let reading = read_event(script, place);
-        let Reading::Found(e, after) = reading else {
+        let step = read_from(script, place);
+        let reading = step.reading;
+        let Reading::Found(e, _) = reading else {
             let Reading::Refused(code) = reading else {
                 return next;
             };
             return put_event(out, next, ordinal, 0, code as usize, queued(state));
         };
         next = put_applied(state, out, next, ordinal, e);
-        place = after;
+        place = step.next;
         ordinal += 1;
     }
 }
