@@ -14,23 +14,20 @@ read-full-requires c κs = search needs
 array-share-prefix-input : tie.Need-array-share-prefix-input
 array-share-prefix-input c = search needs
 
-slice-aggregate-replay : tie.Need-slice-aggregate-replay
-slice-aggregate-replay c = search needs
+slice-aggregate-program : tie.Need-slice-aggregate-program
+slice-aggregate-program c = search needs
 
-slice-aggregate-replay-2 : tie.Need-slice-aggregate-replay-2
-slice-aggregate-replay-2 c = search needs
+slice-aggregate-program-2 : tie.Need-slice-aggregate-program-2
+slice-aggregate-program-2 c = search needs
 
-slice-aggregate-replay-3 : tie.Need-slice-aggregate-replay-3
-slice-aggregate-replay-3 c = search needs
-
-replay-requires : tie.Need-replay-requires
-replay-requires c κs = search needs
+program-requires : tie.Need-program-requires
+program-requires c κs = search needs
 
 array-share-prefix-out : tie.Need-array-share-prefix-out
 array-share-prefix-out c = search needs
 
 slice-aggregate-write-all : tie.Need-slice-aggregate-write-all
-slice-aggregate-write-all c = let at-replay = c .before .before .before in sym (length-take-le (at-replay .replay .result) (at-replay .replay .last .1 .1 .0) (array-share-prefix-out (c .before)))
+slice-aggregate-write-all c = let at-program = c .before .before in sym (length-take-le (at-program .program .result) (at-program .program .last .1 .0) (array-share-prefix-out (c .before)))
 
 write-all-requires : tie.Need-write-all-requires
 write-all-requires c κs = search needs
@@ -45,10 +42,9 @@ run-spec =
     slice-aggregate-read-full
     read-full-requires
     array-share-prefix-input
-    slice-aggregate-replay
-    slice-aggregate-replay-2
-    slice-aggregate-replay-3
-    replay-requires
+    slice-aggregate-program
+    slice-aggregate-program-2
+    program-requires
     array-share-prefix-out
     slice-aggregate-write-all
     write-all-requires
