@@ -78,7 +78,7 @@ fn put_applied(state: &mut [u8], out: &mut [u8], at: usize, ordinal: usize, e: E
     put_event(out, at, ordinal, kind_of(e), code as usize, queued(state))
 }
 
-// The records one after another: a refused event is printed and the next is applied, a refused record is printed and ends the reading.
+// The records one after another, each through the reader: a refused event is printed and the next is applied, a refused record is printed and ends the reading.
 fn put_events(script: &[u8], state: &mut [u8], out: &mut [u8], at: usize) -> usize
     requires { ⌜ Ends (eventsOf (now script) (now state) .text) at ⌝ }
     ensures { λ r. ⌜ Wrote (eventsOf (now (script .entry)) (now (state .entry)) .text) (now (out .entry)) at (now (out .exit)) r
