@@ -1,12 +1,14 @@
 # The Rust, C and Python side of the core: comparison, program cases, benchmarks, example, sanitizers.
-# Needs cargo, a C and a C++ compiler and Python 3, and for all that links the archive or runs the program x86-64.
-# The main Makefile includes it at its end; alone it is `make -f make/harness.mk TARGET` in the root of the repository.
+# Needs cargo, a C and a C++ compiler and Python 3. The archive and the program are for x86-64: elsewhere they are
+# emulated (make/emulated.mk), and what times them or looks into them is not done.
+# The main Makefile includes it; alone it is `make -f make/harness.mk TARGET` in the root of the repository.
 .PHONY: compare program-test selftest must-notice valgrind asan bench bench-test example header header-c header-cxx \
-	rust-test always
+	rust-test native always
 
 # The archive under test, and the program. Either can be another one, which is then taken as it is.
-HOP_ARCHIVE ?= target/staticlib/libhop_c.a
-HOP_PROGRAM ?= target/bin/hop_program
+NATIVE := $(filter x86_64,$(shell uname -m))
+HOP_ARCHIVE ?= $(if $(NATIVE),target/staticlib,build/emulated)/libhop_c.a
+HOP_PROGRAM ?= $(if $(NATIVE),target/bin,build/emulated)/hop_program
 # What the comparison is asked: --seconds N, --cases N, --seed N, --group NAME, --case N, --skip NAME, --first, --list.
 COMPARE ?= --seconds 60
 
@@ -24,6 +26,14 @@ target/staticlib/libhop_c.a: crates.txt $(shell find crates -type d -o -name '*.
 # rt itself finds out whether a source changed.
 target/bin/hop_program: always
 	@rt check hop_program
+
+ifndef NATIVE
+include make/emulated.mk
+endif
+
+# For what would say something about the emulator and not about the core.
+native:
+	@$(if $(NATIVE),:,echo 'only on an x86-64 machine: elsewhere the core is emulated'; exit 1)
 
 $(HARNESS_OUT):
 	@mkdir -p $@
@@ -72,7 +82,7 @@ FEW := --cases 5 --skip three-nodes --skip every-node-count --skip every-byte --
 
 # Reads of what nobody wrote and accesses outside of a buffer, in the archive's own code: exact buffers from C, then
 # the comparison.
-valgrind: $(HOP_ARCHIVE) $(HOP_PROGRAM) | $(HARNESS_OUT)
+valgrind: native $(HOP_ARCHIVE) $(HOP_PROGRAM) | $(HARNESS_OUT)
 	@$(CC) $(C_FLAGS) -O1 -g harness/c/drive.c $(HOP_ARCHIVE) -o $(HARNESS_OUT)/drive
 	@valgrind --quiet --leak-check=full --error-exitcode=1 $(HARNESS_OUT)/drive
 	@$(LINKED) cargo build --quiet --release -p hop_harness
@@ -82,7 +92,7 @@ valgrind: $(HOP_ARCHIVE) $(HOP_PROGRAM) | $(HARNESS_OUT)
 # instrumented: what they see is the callers' side, the header's use, and what the archive hands to the C library.
 # Rust has its sanitizer behind a flag that is not stable, hence RUSTC_BOOTSTRAP; it needs its own folder.
 ASAN_TARGET := x86_64-unknown-linux-gnu
-asan: $(HOP_ARCHIVE) $(HOP_PROGRAM) | $(HARNESS_OUT)
+asan: native $(HOP_ARCHIVE) $(HOP_PROGRAM) | $(HARNESS_OUT)
 	@$(CC) $(C_FLAGS) -O1 -g -fsanitize=address,undefined -fno-sanitize-recover=all \
 		harness/c/drive.c $(HOP_ARCHIVE) -o $(HARNESS_OUT)/drive-asan
 	@$(HARNESS_OUT)/drive-asan
@@ -97,6 +107,6 @@ bench-test:
 
 # Ratios of the core's time to a careful safe Rust implementation's, every byte equal first. BENCH: a word of the rows'
 # names (check, pass, records, ..) for these alone, or --itself for the safe implementation against itself.
-bench: $(HOP_ARCHIVE)
+bench: native $(HOP_ARCHIVE)
 	@$(LINKED) cargo build --quiet --release -p hop_bench
 	@$(HARNESS_BIN)/bench $(BENCH)

@@ -118,11 +118,12 @@ pub fn set_last_word(text: &str, seconds: u32) {
 /// Has faults and hangs say the last word instead of dying without one.
 pub fn watch() {
     const ILL: c_int = 4;
+    const ABRT: c_int = 6;
     const BUS: c_int = 7;
     const FPE: c_int = 8;
     const SEGV: c_int = 11;
     const ALRM: c_int = 14;
-    for number in [ILL, BUS, FPE, SEGV, ALRM] {
+    for number in [ILL, ABRT, BUS, FPE, SEGV, ALRM] {
         unsafe { signal(number, say_last_word) };
     }
 }

@@ -1,0 +1,230 @@
+/* far.c: hop.h's calls on a machine that is not x86-64: each is made on the archive for x86-64, which served.c holds
+ * under the kit's emulator. Uses turn.h and the C library. EMULATOR and SERVED are the two programs' full paths.
+ * Where anything goes wrong on the way the process ends, as served.c did where a signal ended it; no answer is made
+ * up. Calls of several threads take turns.
+ */
+#define _GNU_SOURCE
+#include "turn.h"
+
+#include <fcntl.h>
+#include <poll.h>
+#include <pthread.h>
+#include <signal.h>
+#include <stdio.h>
+#include <stdlib.h>
+#include <string.h>
+#include <sys/resource.h>
+#include <sys/wait.h>
+#include <unistd.h>
+
+/* No call takes so many milliseconds; one that does hangs. */
+#define PATIENCE 300000
+
+static pthread_mutex_t turn = PTHREAD_MUTEX_INITIALIZER;
+static pid_t served;
+static int to_served, from_served;
+static union {
+    uint8_t bytes[sizeof(turn_call) + 2 * MOST_LENT];
+    turn_call call;
+    turn_answer answer;
+} message;
+
+static _Noreturn void fail(const char *what)
+{
+    int status = 0;
+    fprintf(stderr, "far: %s\n", what);
+    if (served > 0) {
+        kill(served, SIGKILL);
+        waitpid(served, &status, 0);
+    }
+    /* A program that watches for a fault in the core hears of it. Killed is only who is killed above. */
+    if (WIFSIGNALED(status) && WTERMSIG(status) != SIGKILL) {
+        fprintf(stderr, "far: the core ended with signal %d\n", WTERMSIG(status));
+        raise(WTERMSIG(status));
+    }
+    abort();
+}
+
+static void take(size_t length)
+{
+    struct pollfd there = {from_served, POLLIN, 0};
+    for (size_t had = 0; had < length;) {
+        if (poll(&there, 1, PATIENCE) != 1)
+            fail("a call does not end");
+        ssize_t now = read(from_served, message.bytes + had, length - had);
+        if (now <= 0)
+            fail("no answer, or one that is cut short");
+        had += (size_t)now;
+    }
+}
+
+static void start(void)
+{
+    char *words[] = {EMULATOR, SERVED, NULL}, *none[] = {NULL};
+    int there[2], back[2];
+    if (pipe2(there, O_CLOEXEC) != 0 || pipe2(back, O_CLOEXEC) != 0)
+        fail("no pipes");
+    /* Room for a whole call, so that it takes one step; without it the call takes more. */
+    fcntl(there[1], F_SETPIPE_SZ, MOST_LENT);
+    fcntl(back[1], F_SETPIPE_SZ, MOST_LENT);
+    served = fork();
+    if (served == 0) {
+        struct rlimit no_core = {0, 0};
+        setrlimit(RLIMIT_CORE, &no_core);
+        dup2(there[0], 0);
+        dup2(back[1], 1);
+        execve(EMULATOR, words, none);
+        _exit(127);
+    }
+    if (served < 0)
+        fail("no process");
+    close(there[0]);
+    close(back[1]);
+    to_served = there[1];
+    from_served = back[0];
+    take(1);
+    if (message.bytes[0] != READY)
+        fail("the core did not start");
+}
+
+/* A buffer that is lent for a call. One that is only read must come back as it was. */
+typedef struct {
+    uint8_t *bytes;
+    size_t length;
+    int only_read;
+} lent;
+
+static const lent nothing = {NULL, 0, 1};
+
+static lent written(void *bytes, size_t length)
+{
+    return (lent){bytes, length, 0};
+}
+
+static lent only_read(const uint8_t *bytes, size_t length)
+{
+    union {
+        const uint8_t *is;
+        uint8_t *plain;
+    } same = {bytes};
+    return (lent){same.plain, length, 1};
+}
+
+static turn_answer ask(uint64_t which, uint64_t a, uint64_t b, uint64_t c, lent first, lent second)
+{
+    lent both[2] = {first, second};
+    size_t length = sizeof(turn_call);
+    turn_answer answer;
+    pthread_mutex_lock(&turn);
+    if (served == 0)
+        start();
+    message.call = (turn_call){.which = which, .number = {a, b, c}};
+    for (int k = 0; k < 2; k++) {
+        if (both[k].length > MOST_LENT)
+            fail("a buffer is too long to be handed on");
+        message.call.lent[k].length = both[k].length;
+        message.call.lent[k].is_null = both[k].bytes == NULL;
+        if (both[k].length > 0)
+            memcpy(message.bytes + length, both[k].bytes, both[k].length);
+        length += both[k].length;
+    }
+    if (write(to_served, message.bytes, length) != (ssize_t)length)
+        fail("a call was not taken");
+    take(sizeof(turn_answer) + first.length + second.length);
+    answer = message.answer;
+    length = sizeof(turn_answer);
+    for (int k = 0; k < 2; k++) {
+        const uint8_t *back = message.bytes + length;
+        length += both[k].length;
+        if (both[k].length == 0)
+            continue;
+        if (!both[k].only_read)
+            memcpy(both[k].bytes, back, both[k].length);
+        else if (memcmp(both[k].bytes, back, both[k].length) != 0)
+            fail("a byte was written that is lent for reading");
+    }
+    pthread_mutex_unlock(&turn);
+    return answer;
+}
+
+static hop_answer two(turn_answer is)
+{
+    return (hop_answer){is.field[0], is.field[1]};
+}
+
+size_t hop_size(size_t n)
+{
+    return ask(SIZE, n, 0, 0, nothing, nothing).size;
+}
+
+uint32_t hop_make(uint8_t *state, size_t len, size_t n)
+{
+    return ask(MAKE, n, 0, 0, written(state, len), nothing).field[0];
+}
+
+uint32_t hop_check(const uint8_t *state, size_t len)
+{
+    return ask(CHECK, 0, 0, 0, only_read(state, len), nothing).field[0];
+}
+
+uint32_t hop_up(uint8_t *state, size_t len, size_t a, size_t b)
+{
+    return ask(UP, a, b, 0, written(state, len), nothing).field[0];
+}
+
+uint32_t hop_down(uint8_t *state, size_t len, size_t a, size_t b)
+{
+    return ask(DOWN, a, b, 0, written(state, len), nothing).field[0];
+}
+
+uint32_t hop_deliver(uint8_t *state, size_t len, size_t from, size_t to)
+{
+    return ask(DELIVER, from, to, 0, written(state, len), nothing).field[0];
+}
+
+hop_answer hop_pass(uint8_t *state, size_t len)
+{
+    return two(ask(PASS, 0, 0, 0, written(state, len), nothing));
+}
+
+hop_ran hop_run(uint8_t *state, size_t len, uint8_t allowance)
+{
+    turn_answer is = ask(RUN, allowance, 0, 0, written(state, len), nothing);
+    return (hop_ran){is.field[0], is.field[1], is.field[2]};
+}
+
+hop_answer hop_distance(const uint8_t *state, size_t len, size_t node, size_t destination)
+{
+    return two(ask(DISTANCE, node, destination, 0, only_read(state, len), nothing));
+}
+
+hop_answer hop_downstream(const uint8_t *state, size_t len, size_t node, size_t destination)
+{
+    return two(ask(DOWNSTREAM, node, destination, 0, only_read(state, len), nothing));
+}
+
+hop_answer hop_queue_length(const uint8_t *state, size_t len, size_t from, size_t to)
+{
+    return two(ask(QUEUE_LENGTH, from, to, 0, only_read(state, len), nothing));
+}
+
+hop_answer hop_total_queued(const uint8_t *state, size_t len)
+{
+    return two(ask(TOTAL_QUEUED, 0, 0, 0, only_read(state, len), nothing));
+}
+
+hop_answer hop_status(const uint8_t *state, size_t len, size_t node, uint8_t *out, size_t out_len)
+{
+    return two(ask(STATUS, node, 0, 0, only_read(state, len), written(out, out_len)));
+}
+
+hop_answer hop_write_event(uint32_t kind, uint16_t first, uint16_t second, uint8_t *out, size_t out_len)
+{
+    return two(ask(WRITE_EVENT, kind, first, second, nothing, written(out, out_len)));
+}
+
+hop_event hop_read_event(const uint8_t *bytes, size_t len, size_t *place)
+{
+    turn_answer is = ask(READ_EVENT, 0, 0, 0, only_read(bytes, len), written(place, sizeof *place));
+    return (hop_event){is.field[0], is.field[1], is.field[2], is.field[3]};
+}
