@@ -11,27 +11,27 @@ EMULATED_C := harness/c/emulated
 $(EMULATED):
 	@mkdir -p $@
 
-# Where kit and repository stand, which is written into what is built here. It is younger only where that changed.
+# Where kit, repository and archive stand, for all that is built here. It is younger only where that changed.
 $(EMULATED)/where: always | $(EMULATED)
-	@echo '$(KIT_TOOLS) $(CURDIR)' > $@.now
+	@echo '$(KIT_TOOLS) $(CURDIR) $(EMULATED_ARCHIVE)' > $@.now
 	@cmp -s $@.now $@ || cp $@.now $@
 
 # The archive as a program that is asked its calls. Nothing but the archive and this one file is linked.
-$(EMULATED)/served: $(EMULATED_ARCHIVE) $(EMULATED_C)/served.c $(EMULATED_C)/turn.h include/hop.h | $(EMULATED)
+$(EMULATED)/served: $(EMULATED_ARCHIVE) $(EMULATED_C)/served.c $(EMULATED_C)/turn.h include/hop.h $(EMULATED)/where
 	@$(KIT_TOOLS)/bin/clang --target=x86_64-unknown-linux-gnu -std=c11 -Wall -Wextra -Wpedantic -Werror -O2 \
 		-ffreestanding -fno-stack-protector -fno-pie -nostdinc -isystem $(EMULATED_C)/freestanding -Iinclude \
 		-c $(EMULATED_C)/served.c -o $@.o
 	@$(KIT_TOOLS)/bin/ld.lld -static $@.o $(EMULATED_ARCHIVE) -o $@
 
 # An archive for this machine with the same calls, each of which is made there.
-$(EMULATED)/libhop_c.a: $(EMULATED)/served $(EMULATED_C)/far.c $(EMULATED_C)/turn.h include/hop.h $(EMULATED)/where
+$(EMULATED)/libhop_c.a: $(EMULATED)/served $(EMULATED_C)/far.c
 	@$(CC) $(C_FLAGS) -O2 -fPIC -DEMULATOR='"$(EMULATOR)"' -DSERVED='"$(CURDIR)/$<"' \
 		-c $(EMULATED_C)/far.c -o $(EMULATED)/far.o
 	@rm -f $@
 	@$(AR) rcs $@ $(EMULATED)/far.o
 
 # The program as the kit runs it. Nothing in the environment steers the emulator.
-$(EMULATED)/hop_program: target/bin/hop_program make/emulated.mk $(EMULATED)/where
+$(EMULATED)/hop_program: target/bin/hop_program $(EMULATED)/where
 	@printf '#!/bin/sh\nexec env -i %s %s --library-path %s %s "$$@"\n' '$(EMULATOR)' \
 		'$(KIT_TOOLS)/lib/ld-linux-x86-64.so.2' '$(KIT_TOOLS)/lib' '$(CURDIR)/$<' > $@
 	@chmod +x $@
