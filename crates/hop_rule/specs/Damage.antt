@@ -1,4 +1,4 @@
--- 01, 'Sound means all of these': that each clause is needed. Each state here is refused with 3, and breaks one clause alone. Uses Calls.
+-- 01, 'Sound means all of these': that each clause is needed. Each state here is made to break one clause, and is refused with 3. Uses Calls.
 -- (That a queue's length is at most n has no case: it follows from the clauses on what waits there.)
 use mathlib.Core.Path.{_≡_, refl}
 use mathlib.Core.List.{List, [], _∷_, map}
