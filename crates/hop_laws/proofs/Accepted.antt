@@ -10,12 +10,12 @@ use lib.ListN.{length, length-append}
 use borrow.Author.Tests.{eqb-false, leb-false, ne-eqb, lt-leb, le-ltb}
 use Rattle.hop_rule.specs.State.{State}
 use Rattle.hop_rule.specs.Rule.{total}
-use Rattle.hop_rule.specs.Stored.{size, stored, nodes, read}
+use Rattle.hop_rule.specs.Stored.{size, stored, nodes, readAs, read}
 use Rattle.hop_rule.specs.Sound.{Sound}
 use Rattle.hop_rule.specs.Calls.{check, distance, downstream, queueLength, totalQueued, Refusal, judge, empty, badCount, short, notSound, noNode, oneNode, onState, refusals, answerAt, done, outcome}
 use Rattle.hop_laws.specs.Fine.{Fine}
 use Rattle.hop_laws.proofs.Sound.{sound-bytes-tells}
-use Rattle.hop_laws.proofs.Stored.{length-stored, stored-holds}
+use Rattle.hop_laws.proofs.Stored.{nodes-stored, length-stored}
 use Rattle.hop_laws.proofs.Read.{stored-sound}
 use Rattle.hop_laws.proofs.Ceiling.{none-own}
 use Rattle.hop_laws.proofs.Calls.{judge-next, judge-none, count-good, state-fine, outcome-done, outcome-number, answer-done}
@@ -81,7 +81,7 @@ module _ (s : List ℕ) (f : Fine s) where
   fine-length-nodes w u l = let (lw, lu, apart) = length-known w u l in (lw, lu)
 
   pub fine-length : (w u : ℕ) → w < nodes s → u < nodes s → answerAt 0 (outcome (queueLength w u) s []) ≡ length (read s .queue w u)
-  unfolding refusals done read judge
+  unfolding refusals done readAs judge
   fine-length w u lw lu = go (ℕ-discrete w u)
     where
       go : Dec (w ≡ u) → answerAt 0 (outcome (queueLength w u) s []) ≡ length (read s .queue w u)
@@ -97,6 +97,6 @@ module _ (t : State) (o : Sound t) (r : List ℕ) (some : 1 ≤ t .n) (most : t 
   pub stored-fine : Fine (stored t ++ r)
   unfolding size
   stored-fine =
-      let e = stored-holds t r .head in
+      let e = nodes-stored t r in
       let long : size (t .n) ≤ length (stored t ++ r) = omega (arith, length-append (stored t) r, length-stored t) in
       record { some = omega (arith, long); least = rw e some; most = rw e most; room = rw e long; sound = stored-sound o r }

@@ -10,8 +10,8 @@ use Rattle.hop_rule.specs.declared.Table.{Table}
 use Rattle.hop_rule.specs.declared.Table.the-variants.{Lengths, Destinations, Values}
 use Rattle.hop_rule.specs.State.{State, Entry}
 use Rattle.hop_rule.specs.Rule.{up, route}
-use Rattle.hop_rule.specs.Stored.{nodes, flat, deep, read}
-use Rattle.hop_rule.specs.Sound.{Waits, Differ, Each, Sound, SoundBytes, waits, differ, each, pairs, triples, isSound, isSoundBytes}
+use Rattle.hop_rule.specs.Stored.{flat, deep, readAs}
+use Rattle.hop_rule.specs.Sound.{Waits, Differ, Each, Sound, SoundAs, waits, differ, each, pairs, triples, isSound, isSoundAs}
 use Rattle.hop_laws.proofs.Tests.{Tells, tells-true, tells-never, tells-as, tells-eq, tells-le, tells-lt, tells-not, tells-and, tells-or, tells-gives, tells-else, tells-every}
 
 -- ---- queues
@@ -109,13 +109,13 @@ sound-tells s = tells-as
     also tells-pairs (s .n) (λ u w. tells-gives (tells-up s u w) (tells-each (λ e. tells-eq (e .value) (s .distance w (e .destination))) (s .queue w u)))
     also tells-triples (s .n) (λ u w v. tells-unless (tells-up s u w) (tells-waits v (s .queue w u)) (tells-eq (s .view u w v) (s .distance w v))))
 
-pub sound-bytes-tells : (s : List ℕ) → Tells (isSoundBytes s) (SoundBytes s)
-unfolding isSoundBytes
-sound-bytes-tells s = tells-as
+pub sound-bytes-tells : {n : ℕ} (s : List ℕ) → Tells (isSoundAs n s) (SoundAs n s)
+unfolding isSoundAs
+sound-bytes-tells {n} s = tells-as
     (λ h. record { state = h .0 .0; past-destinations = h .0 .1; past-values = h .1 })
     (λ h. ((h .state, h .past-destinations), h .past-values))
-    (sound-tells (read s) also past Destinations also past Values)
+    (sound-tells (readAs n s) also past Destinations also past Values)
   where
-    past : (t : Table) → Tells (triples (nodes s) (λ w u p. ltb p (flat s Lengths w u) || eqb (deep s t w u p) 0))
-        ((w u p : ℕ) → w < nodes s → u < nodes s → p < nodes s → flat s Lengths w u ≤ p → deep s t w u p ≡ 0)
-    past t = tells-triples (nodes s) (λ w u p. tells-as (λ h l. h (λ k. omega arith)) (λ h k. h (omega arith)) (tells-else (tells-lt p (flat s Lengths w u)) (tells-eq (deep s t w u p) 0)))
+    past : (t : Table) → Tells (triples n (λ w u p. ltb p (flat n s Lengths w u) || eqb (deep n s t w u p) 0))
+        ((w u p : ℕ) → w < n → u < n → p < n → flat n s Lengths w u ≤ p → deep n s t w u p ≡ 0)
+    past t = tells-triples n (λ w u p. tells-as (λ h l. h (λ k. omega arith)) (λ h k. h (omega arith)) (tells-else (tells-lt p (flat n s Lengths w u)) (tells-eq (deep n s t w u p) 0)))

@@ -50,12 +50,12 @@ length-stored t = bytes.length-stored t
 pub size-numbers : map size (1 ∷ 2 ∷ 3 ∷ 27 ∷ 40 ∷ []) ≡ 8 ∷ 41 ∷ 118 ∷ 61966 ∷ 198401 ∷ []
 size-numbers = bytes.size-numbers
 
--- The bytes of a stored state hold its cells, each at the place that reading looks at; and bytes that hold a state's cells are its stored form. So no byte of it is left open.
-pub stored-holds : (t : State) (r : List ℕ) → Holds (stored t ++ r) t
-stored-holds t r = bytes.stored-holds t r
+-- The bytes of a stored state claim its n and hold its cells, each at the place that reading looks at; and bytes that claim a state's n and hold its cells are its stored form. So no byte of it is left open.
+pub stored-holds : (t : State) (r : List ℕ) → (nodes (stored t ++ r) ≡ t .n) × Holds (stored t ++ r) t
+stored-holds t r = (bytes.nodes-stored t r, bytes.stored-holds t r)
 
-pub held-stored : (s : List ℕ) (t : State) → size (t .n) ≤ length s → Holds s t → s ≡ stored t ++ drop (size (t .n)) s
-held-stored s t room h = bytes.held-stored room h
+pub held-stored : (s : List ℕ) (t : State) → size (t .n) ≤ length s → nodes s ≡ t .n → Holds s t → s ≡ stored t ++ drop (size (t .n)) s
+held-stored s t room e h = bytes.held-stored room e h
 
 -- Reading undoes storing, up to cells that no node below n has; and what is stored of a sound state is sound.
 pub read-stored : (t : State) → Sound t → (r : List ℕ) → Same (read (stored t ++ r)) t

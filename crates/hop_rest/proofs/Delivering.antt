@@ -11,7 +11,7 @@ use lib.Seq.{drop-at}
 use borrow.Author.Tests.{eq-eqb, ne-eqb}
 use Rattle.hop_rule.specs.State.{State}
 use Rattle.hop_rule.specs.Rule as rule
-use Rattle.hop_rule.specs.Stored.{size, stored, nodes, read}
+use Rattle.hop_rule.specs.Stored.{size, stored, nodes, readAs, read}
 use Rattle.hop_rule.specs.Calls.{check, deliver, queueLength, totalQueued, Refusal, judge, isDown, nothingWaits, refusals, restored, done, outcome}
 use Rattle.hop_laws.specs.Same.{Same}
 use Rattle.hop_laws.specs.Fine.{Fine}
@@ -77,14 +77,14 @@ equal-within n w u x y f h e = go (decLt 0 x) (decLt 0 y)
 -- So a pass by calls is one of the state that is read, and the other way round.
 module _ (s : List ℕ) (f : Fine s) (qs : List Queue) where
   pub pass-read : PassBytes s qs → Pass (read s) qs
-  unfolding read
+  unfolding readAs
   pass-read h = record {
     nodes = count-nodes (nodes s) qs (λ w u l. fine-length-nodes s f w u (omega (arith, h w u)));
     each = λ w u lw lu. h w u ∙ fine-length s f w u lw lu;
   }
 
   pub read-pass : Pass (read s) qs → PassBytes s qs
-  unfolding read
+  unfolding readAs
   read-pass p w u =
       equal-within (nodes s) w u (count w u qs) (asked (queueLength w u) s) (nodes-count (nodes s) qs (p .nodes) w u) (fine-length-nodes s f w u) (λ lw lu. p .each w u lw lu ∙ sym (fine-length s f w u lw lu))
 
@@ -116,7 +116,7 @@ module _ (s : List ℕ) (f : Fine s) (t : State) (o : Over (read s) t) (q : Queu
 
   -- One that is done is between two nodes, and leaves the rule's next state.
   call-nodes : delivery (restored t s) q .number ≡ 0 → (q .sender < read s .n) × (q .receiver < read s .n)
-  unfolding refusals read
+  unfolding refusals readAs
   call-nodes z =
       let (lw, lu, apart, last) = ends-known (restored t s) (q .sender) (q .receiver) (ofQueue (restored t s) q) (sym judged ∙ z) in
       (rw (over-head s f t o) at lw, rw (over-head s f t o) at lu)
@@ -135,7 +135,7 @@ module _ (s : List ℕ) (f : Fine s) (t : State) (o : Over (read s) t) (q : Queu
 
   -- One from a queue that is not empty is done.
   call-done : Delivered (read s) t (q .sender) (q .receiver) (next t q) → delivery (restored t s) q .number ≡ 0
-  unfolding refusals judge read
+  unfolding refusals judge readAs
   call-done d =
       let sound = f .sound .state in
       let same = over-read s f t o in
@@ -203,7 +203,7 @@ module _ (s : List ℕ) (accepted : outcome check s [] .number ≡ 0) where
 
   -- The buffer is that of the state which it holds.
   from-own : (P : List ℕ → Type 0) → P (restored (read s) s) → P s
-  unfolding read
+  unfolding readAs
   from-own P p = subst P (stored-read s (fine .room) (fine .sound)) p
 
   passed : (ps : List (List Queue)) → PassesBytes s ps → Passes (read s) ps × NoneRefused s (flatten ps)
@@ -216,7 +216,7 @@ module _ (s : List ℕ) (accepted : outcome check s [] .number ≡ 0) where
   keeps P h qs = from-own (λ b. P (delivering b qs)) (delivering-keeps s fine P h (read s) qs start)
 
   pub deliveries-settle : DeliveriesSettle s
-  unfolding read
+  unfolding readAs
   deliveries-settle =
       let rests = comes-to-rest (read s) (fine .sound .state) in
       record {

@@ -13,7 +13,7 @@ use Rattle.hop_rule.specs.Words.{loop}
 use Rattle.hop_rule.specs.State.{State}
 use Rattle.hop_rule.specs.Rule as rule
 use Rattle.hop_rule.specs.Rule.{route, recompute, between, linkUp, cut, recomputeAll, linkDown}
-use Rattle.hop_rule.specs.Stored.{size, stored, nodes, read}
+use Rattle.hop_rule.specs.Stored.{size, stored, nodes, readAs, read}
 use Rattle.hop_rule.specs.Calls.{Call, up, down, Refusal, judge, noNode, oneNode, isUp, isDown, onState, refusals, refused, changed, done, outcome}
 use Rattle.hop_laws.specs.Same.{Same}
 use Rattle.hop_laws.specs.Fine.{Fine}
@@ -207,7 +207,7 @@ module _ (s out : List ℕ) (a b : ℕ) where
 
   -- A link has one state, as both ends see it.
   linked-either : Fine s → a < nodes s → b < nodes s → rule.up (read s) a b ≡ rule.up (read s) b a
-  unfolding read
+  unfolding readAs
   linked-either h la lb = ap (λ x. eqb x 1) (h .sound .state .symmetric a b la lb)
 
   ends-outcome : (c d : Call) (t r : State) → judge (refusals c s out) ≡ judge (refusals d s out) → done c s out ≡ changed t [] s out → done d s out ≡ changed r [] s out → Same t r → outcome c s out ≡ outcome d s out

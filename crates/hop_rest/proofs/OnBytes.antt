@@ -6,12 +6,12 @@ use native.Mathlib.Omega.{arith}
 use lib.ListN.{drop}
 use Rattle.hop_rule.specs.State.{State}
 use Rattle.hop_rule.specs.Rule.{passes, made}
-use Rattle.hop_rule.specs.Stored.{size, nodes, read}
+use Rattle.hop_rule.specs.Stored.{size, nodes, readAs, read}
 use Rattle.hop_rule.specs.Sound.{Sound}
 use Rattle.hop_rule.specs.Calls.{check, run, distance, downstream, refusals, answerAt, restored, done, outcome}
 use Rattle.hop_laws.specs.Same.{Same}
 use Rattle.hop_laws.specs.Fine.{Fine}
-use Rattle.hop_laws.proofs.Stored.{stored-holds}
+use Rattle.hop_laws.proofs.Stored.{nodes-stored}
 use Rattle.hop_laws.proofs.Read.{read-stored}
 use Rattle.hop_laws.proofs.Calls.{outcome-done}
 use Rattle.hop_laws.proofs.Accepted.{accepted-fine, fine-accepts, fine-accepted, fine-total, fine-distance, fine-downstream, stored-fine}
@@ -27,11 +27,11 @@ use Rattle.hop_rest.proofs.Top.{comes-to-rest}
 
 module _ (s : List ℕ) (f : Fine s) (t : State) (o : Over (read s) t) where
   over-nodes : t .n ≡ nodes s
-  unfolding read
+  unfolding readAs
   over-nodes = o .nodes
 
   pub over-head : nodes (restored t s) ≡ nodes s
-  over-head = stored-holds t (drop (size (t .n)) s) .head ∙ over-nodes
+  over-head = nodes-stored t (drop (size (t .n)) s) ∙ over-nodes
 
   pub over-read : Same (read (restored t s)) t
   over-read = read-stored (o .sound) (drop (size (t .n)) s)
@@ -42,16 +42,16 @@ module _ (s : List ℕ) (f : Fine s) (t : State) (o : Over (read s) t) where
   -- What the calls read there is the state's own.
   module _ (u v : ℕ) (lu : u < nodes s) (lv : v < nodes s) where
     asked-distance : asked (distance u v) (restored t s) ≡ t .distance u v
-    unfolding read
+    unfolding readAs
     asked-distance = fine-distance _ over-fine u v (rw over-head lu) (rw over-head lv) ∙ over-read .distance u v (rw over-head lu) (rw over-head lv)
 
     asked-downstream : asked (downstream u v) (restored t s) ≡ t .downstream u v
-    unfolding read
+    unfolding readAs
     asked-downstream = fine-downstream _ over-fine u v (rw over-head lu) (rw over-head lv) ∙ over-read .downstream u v (rw over-head lu) (rw over-head lv)
 
   -- So a state that has settled is a buffer that has.
   pub settled-bytes : Settled (read s) t → SettledBytes s (restored t s)
-  unfolding read
+  unfolding readAs
   settled-bytes h = record {
     accepted = fine-accepted _ over-fine;
     same-nodes = over-head;
@@ -76,7 +76,7 @@ module _ (s : List ℕ) (accepted : outcome check s [] .number ≡ 0) (k : ℕ) 
   ran = outcome-done (run k) s [] (fine-accepts s fine)
 
   pub run-settles : RunSettles s k
-  unfolding done read
+  unfolding done readAs
   run-settles =
       let rests = comes-to-rest (read s) sound in
       record {

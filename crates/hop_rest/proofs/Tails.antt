@@ -11,7 +11,7 @@ use borrow.Author.Tests.{leb-false, ne-eqb, le-ltb}
 use Rattle.hop_rule.specs.declared.Event.{Event}
 use Rattle.hop_rule.specs.State.{State}
 use Rattle.hop_rule.specs.Rule as rule
-use Rattle.hop_rule.specs.Stored.{size, stored, nodes, read}
+use Rattle.hop_rule.specs.Stored.{size, stored, nodes, readAs, read}
 use Rattle.hop_rule.specs.Sound.{SoundBytes}
 use Rattle.hop_rule.specs.Records.{statusRecord}
 use Rattle.hop_rule.specs.Calls.{Call, make, check, up, down, deliver, pass, run, distance, downstream, queueLength, totalQueued, status, writeEvent, Refusal, judge, badCount, noNode, oneNode, isUp, isDown, nothingWaits, onState, refusals, Outcome, refused, answered, changed, done, outcome}
@@ -37,10 +37,10 @@ module _ (f r : List ℕ) (room : size (nodes f) ≤ length f) where
       rw (
         ne-eqb (length (f ++ r)) 0 (λ z. omega arith),
         ne-eqb (length f) 0 (λ z. omega arith),
+        test-same f r room,
         nodes-same f r room,
         le-ltb (length (f ++ r)) (size (nodes f)) (omega arith),
         le-ltb (length f) (size (nodes f)) room,
-        test-same f r room,
       )
 
   state-judged : (more less : List Refusal) → (Fine f → judge more ≡ judge less) → judge (onState (f ++ r) more) ≡ judge (onState f less)
@@ -136,17 +136,17 @@ module _ (f r out : List ℕ) (room : size (nodes f) ≤ length f) where
   fits e = rw e room
 
   link-same : SoundBytes f → (a b : ℕ) → a < nodes f → b < nodes f → rule.up (read (f ++ r)) a b ≡ rule.up (read f) a b
-  unfolding read
+  unfolding readAs
   link-same h a b la lb = ap (λ x. eqb x 1) (sym (read-same f r room h .link a b la lb))
 
   up-alike : (a b : ℕ) → Alike (up a b) f r out
-  unfolding refusals done read rule.linkUp
+  unfolding refusals done readAs rule.linkUp
   up-alike a b = state-alike (up a b) _ _ refl refl
       (λ h. nodes-judged f r room a b (oneNode a b ∷ isUp (f ++ r) a b ∷ []) (oneNode a b ∷ isUp f a b ∷ []) (λ la lb. rw (link-same h a b la lb)))
       (λ h z. changed-alike f r out (rule.linkUp (read f) a b) (rule.linkUp (read (f ++ r)) a b) room (up-same (read-same f r room h) a b) refl)
 
   down-alike : (a b : ℕ) → Alike (down a b) f r out
-  unfolding refusals done read
+  unfolding refusals done readAs
   down-alike a b = state-alike (down a b) _ _ refl refl
       (λ h. nodes-judged f r room a b (oneNode a b ∷ isDown (f ++ r) a b ∷ []) (oneNode a b ∷ isDown f a b ∷ []) (λ la lb. rw (link-same h a b la lb)))
       (λ h z.
@@ -154,7 +154,7 @@ module _ (f r out : List ℕ) (room : size (nodes f) ≤ length f) where
       changed-alike f r out (rule.linkDown (read f) a b) (rule.linkDown (read (f ++ r)) a b) (fits (down-n (read f) a b)) (down-same (read-same f r room h) a b (l .0) (l .1)) refl)
 
   deliver-alike : (w u : ℕ) → Alike (deliver w u) f r out
-  unfolding refusals done read
+  unfolding refusals done readAs
   deliver-alike w u = state-alike (deliver w u) _ _ refl refl
       (λ h. nodes-judged f r room w u (oneNode w u ∷ isDown (f ++ r) w u ∷ nothingWaits (f ++ r) w u ∷ []) (oneNode w u ∷ isDown f w u ∷ nothingWaits f w u ∷ [])
       (λ lw lu. rw (link-same h w u lw lu, queue-length h w u lw lu)))
@@ -166,13 +166,13 @@ module _ (f r out : List ℕ) (room : size (nodes f) ≤ length f) where
       queue-length h w u lw lu = ap length (sym (read-same f r room h .queue w u lw lu))
 
   pass-alike : Alike pass f r out
-  unfolding refusals done read
+  unfolding refusals done readAs
   pass-alike = state-alike pass [] [] refl refl (λ h. refl) (λ h z.
       let e = read-same f r room h in
       changed-alike f r out (rule.pass (read f)) (rule.pass (read (f ++ r))) (fits (pass-keeps-sound (read f) (h .state) .1)) (pass-same (h .state) e) (ap (λ x. x ∷ []) (total-same e)))
 
   run-alike : (k : ℕ) → Alike (run k) f r out
-  unfolding refusals done read
+  unfolding refusals done readAs
   run-alike k = state-alike (run k) [] [] refl refl (λ h. refl) (λ h z.
       let e = read-same f r room h in
       let m = rule.made (read f) k in
@@ -185,7 +185,7 @@ module _ (f r out : List ℕ) (room : size (nodes f) ≤ length f) where
       → ((s : List ℕ) → done c s out ≡ answered (answer (read s) ∷ []) s out)
       → ((s t : State) → Same s t → a < s .n → b < s .n → answer s ≡ answer t)
       → Alike c f r out
-  unfolding read
+  unfolding readAs
   asked-alike c a b more answer e i d same = state-alike c _ _ e i (λ h. nodes-judged f r room a b more more (λ la lb. refl)) (λ h z.
       let l = nodes-inside f a b more z in (
         d (f ++ r) ∙ ap (λ x. answered (x ∷ []) (f ++ r) out) (sym (same _ _ (read-same f r room h) (l .0) (l .1))) ∙ ap (λ (o : Outcome). followed o r) (sym (d f)),
@@ -193,7 +193,7 @@ module _ (f r out : List ℕ) (room : size (nodes f) ≤ length f) where
       ))
 
   status-alike : (u : ℕ) → Alike (status u) f r out
-  unfolding refusals done read statusRecord
+  unfolding refusals done readAs statusRecord
   status-alike u = state-alike (status u) _ _ refl refl (λ h. rw (nodes-same f r room)) (λ h z.
       let e = read-same f r room h in
       let l = leb-false (nodes f) u (judge-none (noNode f u) _ (omega arith) z .0) in

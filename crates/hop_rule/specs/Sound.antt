@@ -10,7 +10,7 @@ use Rattle.hop_rule.specs.declared.Table.the-variants.{Lengths, Destinat
 use Rattle.hop_rule.specs.Words.{every}
 use Rattle.hop_rule.specs.State.{State, Entry}
 use Rattle.hop_rule.specs.Rule.{up, route}
-use Rattle.hop_rule.specs.Stored.{nodes, flat, deep, read}
+use Rattle.hop_rule.specs.Stored.{nodes, flat, deep, readAs}
 
 -- v waits in the queue.
 abbrev pub Waits : ℕ → List Entry → Type 0
@@ -50,12 +50,16 @@ pub record Sound (s : State) : Type 0 where
   -- and a destination that does not wait there has the receiver's view equal to the sender's distance;
   pub heard : (u w v : ℕ) → u < s .n → w < s .n → v < s .n → s .link u w ≡ 1 → (Waits v (s .queue w u) → ⊥) → s .view u w v ≡ s .distance w v
 
--- Bytes are sound if the state that they hold is,
-pub record SoundBytes (s : List ℕ) : Type 0 where
-  pub state : Sound (read s)
+-- Bytes are sound for n nodes if the state that they hold is,
+pub record SoundAs (n : ℕ) (s : List ℕ) : Type 0 where
+  pub state : Sound (readAs n s)
   -- and queue places past the length are 0 in both blocks.
-  pub past-destinations : (w u p : ℕ) → w < nodes s → u < nodes s → p < nodes s → flat s Lengths w u ≤ p → deep s Destinations w u p ≡ 0
-  pub past-values : (w u p : ℕ) → w < nodes s → u < nodes s → p < nodes s → flat s Lengths w u ≤ p → deep s Values w u p ≡ 0
+  pub past-destinations : (w u p : ℕ) → w < n → u < n → p < n → flat n s Lengths w u ≤ p → deep n s Destinations w u p ≡ 0
+  pub past-values : (w u p : ℕ) → w < n → u < n → p < n → flat n s Lengths w u ≤ p → deep n s Values w u p ≡ 0
+
+-- Bytes are sound if they are for as many nodes as they claim.
+abbrev pub SoundBytes : List ℕ → Type 0
+SoundBytes s = SoundAs (nodes s) s
 
 -- ---- the same as a test
 
@@ -94,8 +98,11 @@ isSound s =
     && pairs (s .n) (λ u w. not (up s u w) || each (λ e. eqb (e .value) (s .distance w (e .destination))) (s .queue w u))
     && triples (s .n) (λ u w v. not (up s u w) || waits v (s .queue w u) || eqb (s .view u w v) (s .distance w v))
 
-unfoldable pub isSoundBytes : List ℕ → Bool
-isSoundBytes s =
-    isSound (read s)
-    && triples (nodes s) (λ w u p. ltb p (flat s Lengths w u) || eqb (deep s Destinations w u p) 0)
-    && triples (nodes s) (λ w u p. ltb p (flat s Lengths w u) || eqb (deep s Values w u p) 0)
+unfoldable pub isSoundAs : ℕ → List ℕ → Bool
+isSoundAs n s =
+    isSound (readAs n s)
+    && triples n (λ w u p. ltb p (flat n s Lengths w u) || eqb (deep n s Destinations w u p) 0)
+    && triples n (λ w u p. ltb p (flat n s Lengths w u) || eqb (deep n s Values w u p) 0)
+
+abbrev pub isSoundBytes : List ℕ → Bool
+isSoundBytes s = isSoundAs (nodes s) s
