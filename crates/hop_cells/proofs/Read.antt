@@ -1,32 +1,27 @@
--- A cell that the code reads is what the state has there: n is the first byte, handed in. Assumes nothing.
+-- A cell that the code reads is what the state has there: n is the count that the bytes claim, handed in. Assumes nothing.
 use mathlib.Core.Path.{_≡_, sym, ap, _∙_}
 use mathlib.Core.List.{List}
 use Prim.Native.Nat.{ℕ}
 use lib.ListN.{length}
-use Rattle.hop_rule.specs.declared.Table.{Table}
 use Rattle.hop_rule.specs.declared.Table.the-variants.{Links, Distances, Downstreams, Lengths}
-use Rattle.hop_rule.specs.Stored.{nodes, flat, read}
+use Rattle.hop_rule.specs.Stored.{nodes, flat, readAs, read}
 use Rattle.hop_laws.proofs.Words.{length-listed}
 use Rattle.hop_cells.specs.Cells.{get, get2}
 
 module _ (s : List ℕ) {n : ℕ} (claim : n ≡ nodes s) (a b : ℕ) where
-  flat-read : (t : Table) → get2 n t a b s ≡ flat s t a b
-  unfolding get flat
-  flat-read t = ap (λ m. get2 m t a b s) claim
-
   pub link-read : get2 n Links a b s ≡ read s .link a b
-  unfolding read
-  link-read = flat-read Links
+  unfolding get flat readAs
+  link-read = ap (λ m. readAs m s .link a b) claim
 
   pub distance-read : get2 n Distances a b s ≡ read s .distance a b
-  unfolding read
-  distance-read = flat-read Distances
+  unfolding get flat readAs
+  distance-read = ap (λ m. readAs m s .distance a b) claim
 
   pub downstream-read : get2 n Downstreams a b s ≡ read s .downstream a b
-  unfolding read
-  downstream-read = flat-read Downstreams
+  unfolding get flat readAs
+  downstream-read = ap (λ m. readAs m s .downstream a b) claim
 
   -- A queue is as long as its length byte says.
   pub length-read : get2 n Lengths a b s ≡ length (read s .queue a b)
-  unfolding read
-  length-read = flat-read Lengths ∙ sym (length-listed _ _)
+  unfolding get flat readAs
+  length-read = sym (length-listed _ _) ∙ ap (λ m. length (readAs m s .queue a b)) claim

@@ -3,6 +3,7 @@
 use hop_rule::Table;
 ghost use mathlib.Core.Path.{_≡_};
 ghost use Prim.Native.Nat.{_+_, _*_, _<_, _≤_};
+ghost use lib.ListN.{length};
 ghost use Rattle.hop_rule.specs.Stored as stored;
 ghost use Rattle.hop_cells.specs.Cells as cell;
 ghost use Rattle.hop_cells.specs.Cells.{Room, cells};
@@ -11,6 +12,14 @@ pub fn wide(x: u8) -> usize
     ensures { λ r. ⌜ (r ≡ x) × (r < 256) ⌝ }
 {
     x as usize
+}
+
+// The node count that the bytes claim: their first.
+pub fn count(s: &[u8]) -> usize
+    requires { ⌜ 0 < length (now s) ⌝ }
+    ensures { λ r. ⌜ r ≡ stored.nodes (now (s .entry)) ⌝ }
+{
+    wide(s[0])
 }
 
 // The bytes of a block of n², and of one of n³.

@@ -12,7 +12,7 @@ use lib.Dec.{leb}
 use lib.ListN.{getD}
 use Rattle.hop_rule.specs.declared.Table.{Table}
 use Rattle.hop_rule.specs.declared.Table.the-variants.{Links, Distances, Downstreams, Views, Lengths, Destinations, Values}
-use Rattle.hop_rule.specs.Stored.{nodes, flat, deep, read}
+use Rattle.hop_rule.specs.Stored.{flat, deep, readAs}
 use Rattle.hop_laws.proofs.Tests.{Tells, true-not-false, tells-as, tells-not-so, tells-eq, tells-le, tells-lt, tells-not, tells-and, tells-or, tells-every}
 use Rattle.hop_cells.specs.Cells.{get}
 use Rattle.hop_rows.specs.Rows.{row, byte, bothAre}
@@ -44,54 +44,51 @@ digits (suc k) i l = (i / suc k, i % suc k, div-lt-iff-lt-mul (zero-lt-suc k) .1
 -- ---- what is judged
 
 -- Of the queue from w to u on an up link.
-pub record Queued (s : List ℕ) (u w : ℕ) : Type 0 where
-  pub most : flat s Lengths w u ≤ nodes s
-  pub below : (p : ℕ) → p < flat s Lengths w u → deep s Destinations w u p < nodes s
-  pub values : (p : ℕ) → p < flat s Lengths w u → deep s Values w u p ≡ flat s Distances w (deep s Destinations w u p)
-  pub differ : (p : ℕ) → p < flat s Lengths w u → (q : ℕ) → q < p → deep s Destinations w u q ≢ deep s Destinations w u p
-  pub heard : (v : ℕ) → v < nodes s → ((p : ℕ) → p < flat s Lengths w u → deep s Destinations w u p ≢ v) → deep s Views u w v ≡ flat s Distances w v
+pub record Queued (n : ℕ) (s : List ℕ) (u w : ℕ) : Type 0 where
+  pub most : flat n s Lengths w u ≤ n
+  pub below : (p : ℕ) → p < flat n s Lengths w u → deep n s Destinations w u p < n
+  pub values : (p : ℕ) → p < flat n s Lengths w u → deep n s Values w u p ≡ flat n s Distances w (deep n s Destinations w u p)
+  pub differ : (p : ℕ) → p < flat n s Lengths w u → (q : ℕ) → q < p → deep n s Destinations w u q ≢ deep n s Destinations w u p
+  pub heard : (v : ℕ) → v < n → ((p : ℕ) → p < flat n s Lengths w u → deep n s Destinations w u p ≢ v) → deep n s Views u w v ≡ flat n s Distances w v
 
 -- Of nodes u and w.
-pub record Paired (s : List ℕ) (u w : ℕ) : Type 0 where
-  pub bit : flat s Links u w ≤ 1
-  pub symmetric : flat s Links u w ≡ flat s Links w u
-  pub diagonal : u ≡ w → flat s Links u w ≡ 0
-  pub queue : flat s Links u w ≡ 1 → Queued s u w
-  pub allows : flat s Links u w ≡ 1 → (v : ℕ) → v < nodes s → Allows (nodes s) w (deep s Views u w v) (flat s Distances u v) (flat s Downstreams u v)
-  pub down-views : flat s Links u w ≢ 1 → (v : ℕ) → v < nodes s → deep s Views u w v ≡ nodes s
-  pub down-queue : flat s Links u w ≢ 1 → flat s Lengths w u ≡ 0
+pub record Paired (n : ℕ) (s : List ℕ) (u w : ℕ) : Type 0 where
+  pub bit : flat n s Links u w ≤ 1
+  pub symmetric : flat n s Links u w ≡ flat n s Links w u
+  pub diagonal : u ≡ w → flat n s Links u w ≡ 0
+  pub queue : flat n s Links u w ≡ 1 → Queued n s u w
+  pub allows : flat n s Links u w ≡ 1 → (v : ℕ) → v < n → Allows n w (deep n s Views u w v) (flat n s Distances u v) (flat n s Downstreams u v)
+  pub down-views : flat n s Links u w ≢ 1 → (v : ℕ) → v < n → deep n s Views u w v ≡ n
+  pub down-queue : flat n s Links u w ≢ 1 → flat n s Lengths w u ≡ 0
 
 -- Of the places of the queue from w to u.
-pub record Sent (s : List ℕ) (w u : ℕ) : Type 0 where
-  pub most : flat s Lengths w u ≤ nodes s
-  pub past : (p : ℕ) → p < nodes s → flat s Lengths w u ≤ p → (deep s Destinations w u p ≡ 0) × (deep s Values w u p ≡ 0)
+pub record Sent (n : ℕ) (s : List ℕ) (w u : ℕ) : Type 0 where
+  pub most : flat n s Lengths w u ≤ n
+  pub past : (p : ℕ) → p < n → flat n s Lengths w u ≤ p → (deep n s Destinations w u p ≡ 0) × (deep n s Values w u p ≡ 0)
 
-pub record Judged (s : List ℕ) : Type 0 where
-  pub views : (u w v : ℕ) → u < nodes s → w < nodes s → v < nodes s → deep s Views u w v ≤ nodes s
-  pub paired : (u w : ℕ) → u < nodes s → w < nodes s → Paired s u w
-  pub given : (u v : ℕ) → u < nodes s → v < nodes s → Given (read s) u v (flat s Distances u v) (flat s Downstreams u v)
-  pub sent : (w u : ℕ) → w < nodes s → u < nodes s → Sent s w u
+pub record Judged (n : ℕ) (s : List ℕ) : Type 0 where
+  pub views : (u w v : ℕ) → u < n → w < n → v < n → deep n s Views u w v ≤ n
+  pub paired : (u w : ℕ) → u < n → w < n → Paired n s u w
+  pub given : (u v : ℕ) → u < n → v < n → Given (readAs n s) u v (flat n s Distances u v) (flat n s Downstreams u v)
+  pub sent : (w u : ℕ) → w < n → u < n → Sent n s w u
 
 -- ---- what each test tells
 
-module _ (s : List ℕ) where
-  abbrev n : ℕ
-  n = nodes s
-
-  reads-flat : (t : Table) (a : ℕ) → Reads s (row n t a) (flat s t a)
+module _ (n : ℕ) (s : List ℕ) where
+  reads-flat : (t : Table) (a : ℕ) → Reads s (row n t a) (flat n s t a)
   unfolding flat
   reads-flat t a = record { reads = λ b. ap (λ (i : ℕ). getD s i 0) (omega arith) }
 
-  reads-deep : (t : Table) (a b : ℕ) → Reads s (row n t (a * n + b)) (deep s t a b)
+  reads-deep : (t : Table) (a b : ℕ) → Reads s (row n t (a * n + b)) (deep n s t a b)
   unfolding deep
   reads-deep t a b = record { reads = λ c. ap (λ (i : ℕ). getD s i 0) (omega arith) }
 
   module _ (u w : ℕ) where
     m : ℕ
-    m = flat s Lengths w u
+    m = flat n s Lengths w u
 
     -- Where nothing waits, views that are the distances are all that is asked for;
-    tells-idle : m ≡ 0 → Tells (idleSound n s u w) (Queued s u w)
+    tells-idle : m ≡ 0 → Tells (idleSound n s u w) (Queued n s u w)
     unfolding idleSound m
     tells-idle e = tells-as
         (λ h. record {
@@ -105,7 +102,7 @@ module _ (s : List ℕ) where
         (tells-same-rows (reads-deep Views u w) (reads-flat Distances w) n)
 
     -- else each clause is tested.
-    tells-busy : m ≢ 0 → Tells (leb m n && busySound n s u w m) (Queued s u w)
+    tells-busy : m ≢ 0 → Tells (leb m n && busySound n s u w m) (Queued n s u w)
     unfolding busySound toldSound m
     tells-busy f =
         let destinations = reads-deep Destinations w u in
@@ -117,14 +114,14 @@ module _ (s : List ℕ) where
         (λ below. tells-then (tells-differing destinations m)
         (λ differ. tells-told (reads-flat Distances w) (reads-deep Views u w) destinations (reads-deep Values w u) n m below differ))))
 
-    tells-queue : Tells (queueSound n s u w) (Queued s u w)
+    tells-queue : Tells (queueSound n s u w) (Queued n s u w)
     unfolding queueSound get flat m
     tells-queue = tells-case (tells-eq m 0) tells-idle tells-busy
 
     l : ℕ
-    l = flat s Links u w
+    l = flat n s Links u w
 
-    tells-paired : Tells (pairSound n s u w) (Paired s u w)
+    tells-paired : Tells (pairSound n s u w) (Paired n s u w)
     unfolding pairSound linkSound upSound downSound get flat m l
     tells-paired = tells-as
         (λ h. record {
@@ -138,23 +135,23 @@ module _ (s : List ℕ) where
         })
         (λ h. ((h .bit, (h .symmetric, ends h (ℕ-discrete u w))), ((λ e. (h .queue e, h .allows e)), λ f. (h .down-queue f, h .down-views f))))
         (tells-and
-        (tells-and (tells-le l 1) (tells-and (tells-eq l (flat s Links w u)) (tells-or (tells-not (tells-eq u w)) (tells-eq l 0))))
+        (tells-and (tells-le l 1) (tells-and (tells-eq l (flat n s Links w u)) (tells-or (tells-not (tells-eq u w)) (tells-eq l 0))))
         (tells-choice (tells-eq l 1)
         (tells-and tells-queue (tells-allow (reads-flat Distances u) (reads-deep Views u w) (reads-flat Downstreams u) n w))
         (tells-and (tells-eq m 0) (tells-are (reads-deep Views u w) n n))))
       where
-        ends : Paired s u w → Dec (u ≡ w) → (u ≢ w) ⊎ (l ≡ 0)
+        ends : Paired n s u w → Dec (u ≡ w) → (u ≢ w) ⊎ (l ≡ 0)
         ends h (yes e) = inr (h .diagonal e)
         ends h (no f) = inl f
 
-  tells-given : (u v : ℕ) → Tells (routeSound n s u v) (Given (read s) u v (flat s Distances u v) (flat s Downstreams u v))
-  unfolding routeSound get flat deep read
+  tells-given : (u v : ℕ) → Tells (routeSound n s u v) (Given (readAs n s) u v (flat n s Distances u v) (flat n s Downstreams u v))
+  unfolding routeSound get flat deep readAs
   tells-given u v =
       tells-choice (tells-eq u v) (tells-and (tells-eq _ 0) (tells-eq _ u))
       (tells-choice (tells-eq _ n) (tells-eq _ 255) (tells-and (tells-lt _ n) (tells-and (tells-lt _ n) (tells-and (tells-eq _ 1) (tells-eq _ _)))))
 
   -- The n rows of a node in a block of n³, as one run of bytes.
-  block-byte : (t : Table) (a w v : ℕ) → byte s (row n t (a * n)) (w * n + v) ≡ deep s t a w v
+  block-byte : (t : Table) (a w v : ℕ) → byte s (row n t (a * n)) (w * n + v) ≡ deep n s t a w v
   unfolding deep
   block-byte t a w v = ap (λ (i : ℕ). getD s i 0) (omega (arith, add-mul (a * n) w n))
 
@@ -163,7 +160,7 @@ module _ (s : List ℕ) where
       (λ h w v lw lv. h (w * n + v) (digits-lt lw lv))
       (λ h i l. let (w, v, lw, lv, e) = digits n i l in subst P e (h w v lw lv))
 
-  tells-views : (u : ℕ) → Tells (viewsSound n s u) ((w v : ℕ) → w < n → v < n → deep s Views u w v ≤ n)
+  tells-views : (u : ℕ) → Tells (viewsSound n s u) ((w v : ℕ) → w < n → v < n → deep n s Views u w v ≤ n)
   unfolding viewsSound
   tells-views u = tells-as
       (λ h w v lw lv. omega (arith, h w v lw lv, block-byte Views u w v))
@@ -171,17 +168,17 @@ module _ (s : List ℕ) where
       (tells-places (tells-below (record { reads = λ i. refl }) (n * n) (n + 1)))
 
   -- The places of a queue from place k on.
-  past-byte : (t : Table) (w u k i : ℕ) → byte s (row n t (w * n + u) + k) i ≡ deep s t w u (k + i)
+  past-byte : (t : Table) (w u k i : ℕ) → byte s (row n t (w * n + u) + k) i ≡ deep n s t w u (k + i)
   unfolding deep
   past-byte t w u k i = ap (λ (i : ℕ). getD s i 0) (omega arith)
 
-  tells-past : (w u k : ℕ) → Tells (bothAre s (row n Destinations (w * n + u) + k) (row n Values (w * n + u) + k) (n - k) 0) ((p : ℕ) → p < n → k ≤ p → (deep s Destinations w u p ≡ 0) × (deep s Values w u p ≡ 0))
+  tells-past : (w u k : ℕ) → Tells (bothAre s (row n Destinations (w * n + u) + k) (row n Values (w * n + u) + k) (n - k) 0) ((p : ℕ) → p < n → k ≤ p → (deep n s Destinations w u p ≡ 0) × (deep n s Values w u p ≡ 0))
   tells-past w u k = tells-as
-      (λ h p l i. subst (λ (p : ℕ). (deep s Destinations w u p ≡ 0) × (deep s Values w u p ≡ 0)) (omega arith) (h (p - k) (omega arith)))
+      (λ h p l i. subst (λ (p : ℕ). (deep n s Destinations w u p ≡ 0) × (deep n s Values w u p ≡ 0)) (omega arith) (h (p - k) (omega arith)))
       (λ h i l. h (k + i) (omega arith) (omega arith))
       (tells-both (record { reads = past-byte Destinations w u k }) (record { reads = past-byte Values w u k }) (n - k) 0)
 
-  tells-sent : (w : ℕ) → Tells (sentSound n s w) ((u : ℕ) → u < n → Sent s w u)
+  tells-sent : (w : ℕ) → Tells (sentSound n s w) ((u : ℕ) → u < n → Sent n s w u)
   unfolding sentSound pastSound get flat
   tells-sent w = tells-case (tells-are (reads-flat Lengths w) n 0)
       (λ e. tells-as
@@ -193,7 +190,7 @@ module _ (s : List ℕ) where
       (λ h. (h .most, h .past))
       (tells-and (tells-le _ n) (tells-past w u _))))
 
-  pub tells-judged : Tells (allSound n s) (Judged s)
+  pub tells-judged : Tells (allSound n s) (Judged n s)
   unfolding allSound nodeSound
   tells-judged = tells-as
       (λ h. record { views = λ u w v lu. h u lu .0 w v; paired = λ u w lu. h u lu .1 .0 w; given = λ u v lu. h u lu .1 .1 .0 v; sent = λ w u lw. h w lw .1 .1 .1 u })

@@ -8,8 +8,8 @@ use Rattle.hop_rule.specs.declared.Table.the-variants.{Links, Distances, Downst
 use Rattle.hop_rule.specs.Words.{listed, every}
 use Rattle.hop_rule.specs.State.{Entry}
 use Rattle.hop_rule.specs.Rule.{route}
-use Rattle.hop_rule.specs.Stored.{nodes, flat, deep, read}
-use Rattle.hop_rule.specs.Sound.{SoundBytes, isSoundBytes}
+use Rattle.hop_rule.specs.Stored.{flat, deep, readAs}
+use Rattle.hop_rule.specs.Sound.{SoundAs, isSoundAs}
 use Rattle.hop_laws.proofs.Tests.{tells-as, tells-same}
 use Rattle.hop_laws.proofs.Words.{length-listed}
 use Rattle.hop_laws.proofs.Queues.{listed-each}
@@ -23,16 +23,13 @@ listed-none : (k : ℕ) (f : ℕ → Entry) → k ≡ 0 → listed k f ≡ []
 unfolding listed
 listed-none k f e = ap (λ (i : ℕ). listed i f) e
 
-module _ (s : List ℕ) where
-  abbrev n : ℕ
-  n = nodes s
-
+module _ (n : ℕ) (s : List ℕ) where
   -- Place p of the queue from w to u.
   abbrev entry : ℕ → ℕ → ℕ → Entry
-  entry w u p = record { destination = deep s Destinations w u p; value = deep s Values w u p }
+  entry w u p = record { destination = deep n s Destinations w u p; value = deep n s Values w u p }
 
-  judged-sound : Judged s → SoundBytes s
-  unfolding read
+  judged-sound : Judged n s → SoundAs n s
+  unfolding readAs
   judged-sound j = record {
     state = record {
       bits = λ u w lu lw. j .paired u w lu lw .bit;
@@ -43,7 +40,7 @@ module _ (s : List ℕ) where
       views = j .views;
       down-views = λ u w v lu lw lv f. j .paired u w lu lw .down-views f v lv;
       down-queues = λ u w lu lw f. listed-none _ (entry w u) (j .paired u w lu lw .down-queue f);
-      lengths = λ u w lu lw. omega (arith, length-listed (flat s Lengths w u) (entry w u), j .sent w u lw lu .most);
+      lengths = λ u w lu lw. omega (arith, length-listed (flat n s Lengths w u) (entry w u), j .sent w u lw lu .most);
       differ = λ u w lu lw q. at-differ _ (entry w u) (j .paired u w lu lw .queue q .differ);
       below = λ u w lu lw q. listed-each _ _ (entry w u) (j .paired u w lu lw .queue q .below);
       values = λ u w lu lw q. listed-each _ _ (entry w u) (j .paired u w lu lw .queue q .values);
@@ -53,11 +50,11 @@ module _ (s : List ℕ) where
     past-values = λ w u p lw lu lp k. j .sent w u lw lu .past p lp k .1;
   }
     where
-      routed : (u v : ℕ) → u < n → v < n → (flat s Distances u v ≡ route (read s) u v .distance) × (flat s Downstreams u v ≡ route (read s) u v .downstream)
-      routed u v lu lv = given-route (read s) u v _ _ (λ w lw q. j .paired u w lu lw .allows q v lv) (j .given u v lu lv)
+      routed : (u v : ℕ) → u < n → v < n → (flat n s Distances u v ≡ route (readAs n s) u v .distance) × (flat n s Downstreams u v ≡ route (readAs n s) u v .downstream)
+      routed u v lu lv = given-route (readAs n s) u v _ _ (λ w lw q. j .paired u w lu lw .allows q v lv) (j .given u v lu lv)
 
-  sound-judged : SoundBytes s → Judged s
-  unfolding read
+  sound-judged : SoundAs n s → Judged n s
+  unfolding readAs
   sound-judged o = record {
     views = o .state .views;
     paired = λ u w lu lw. record {
@@ -71,24 +68,21 @@ module _ (s : List ℕ) where
         differ = differ-at _ (entry w u) (o .state .differ u w lu lw q);
         heard = λ v lv f. o .state .heard u w v lu lw lv q (λ m. let (p, l, e) = waits-at v _ (entry w u) m in f p l (sym e));
       };
-      allows = λ q v lv. route-allowed (read s) u v _ _ (o .state .distances u v lu lv) (o .state .downstreams u v lu lv) w lw q;
+      allows = λ q v lv. route-allowed (readAs n s) u v _ _ (o .state .distances u v lu lv) (o .state .downstreams u v lu lv) w lw q;
       down-views = λ f v lv. o .state .down-views u w v lu lw lv f;
-      down-queue = λ f. omega (arith, length-listed (flat s Lengths w u) (entry w u), ap length (o .state .down-queues u w lu lw f));
+      down-queue = λ f. omega (arith, length-listed (flat n s Lengths w u) (entry w u), ap length (o .state .down-queues u w lu lw f));
     };
-    given = λ u v lu lv. route-given (read s) u v _ _ (o .state .distances u v lu lv) (o .state .downstreams u v lu lv);
+    given = λ u v lu lv. route-given (readAs n s) u v _ _ (o .state .distances u v lu lv) (o .state .downstreams u v lu lv);
     sent = λ w u lw lu. record {
       most = most u w lu lw;
       past = λ p lp k. (o .past-destinations w u p lw lu lp k, o .past-values w u p lw lu lp k);
     };
   }
     where
-      most : (u w : ℕ) → u < n → w < n → flat s Lengths w u ≤ n
-      most u w lu lw = omega (arith, length-listed (flat s Lengths w u) (entry w u), o .state .lengths u w lu lw)
+      most : (u w : ℕ) → u < n → w < n → flat n s Lengths w u ≤ n
+      most u w lu lw = omega (arith, length-listed (flat n s Lengths w u) (entry w u), o .state .lengths u w lu lw)
 
-  judged : allSound n s ≡ isSoundBytes s
-  judged = tells-same (tells-as judged-sound sound-judged (tells-judged s)) (sound-bytes-tells s)
-
--- The check is the test of hop_rule, for every buffer whose first byte is n.
-pub sound-known : (n : ℕ) (s : List ℕ) → nodes s ≡ n → every n (nodeSound n s) ≡ isSoundBytes s
-unfolding allSound
-sound-known n s e = rw (← e) (judged s)
+  -- The check is the test of hop_rule.
+  pub sound-known : every n (nodeSound n s) ≡ isSoundAs n s
+  unfolding allSound
+  sound-known = tells-same (tells-as judged-sound sound-judged (tells-judged n s)) (sound-bytes-tells s)

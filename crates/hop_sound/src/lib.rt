@@ -3,14 +3,13 @@
 mod nodes;
 
 ghost use mathlib.Core.Path.{_≡_};
-ghost use Rattle.hop_rule.specs.Stored.{nodes};
-ghost use Rattle.hop_rule.specs.Sound.{isSoundBytes};
+ghost use Rattle.hop_rule.specs.Sound.{isSoundAs};
 ghost use Rattle.hop_cells.specs.Cells.{Room};
 
-// Is the state that the bytes hold sound? Their first must be n.
+// Is the state of n nodes that the bytes hold sound? The first byte is not looked at.
 pub fn is_sound(s: &[u8], n: usize) -> bool
-    requires { ⌜ Room n (now s) × (nodes (now s) ≡ n) ⌝ }
-    ensures { λ r. ⌜ r ≡ isSoundBytes (now (s .entry)) ⌝ }
+    requires { ⌜ Room n (now s) ⌝ }
+    ensures { λ r. ⌜ r ≡ isSoundAs n (now (s .entry)) ⌝ }
 {
     for u in 0..n {
         if !nodes::node_sound(s, n, u) {

@@ -24,7 +24,7 @@ node-sound-requires : tie.Need-node-sound-requires Inv-loop μ-loop
 node-sound-requires c κs = search needs
 
 returns : tie.Need-returns Inv-loop μ-loop
-returns c = every-fails _ _ _ (c .before .before .loop-test .taken) (fails (c .before .node-sound .ensures) (c .if1 .taken)) ∙ sound-known _ _ (c .before .before .before .before .before .pre .1)
+returns c = every-fails _ _ _ (c .before .before .loop-test .taken) (fails (c .before .node-sound .ensures) (c .if1 .taken)) ∙ sound-known _ _
 
 add-u : tie.Need-add-u Inv-loop μ-loop
 add-u c = omega arith
@@ -36,7 +36,7 @@ loop-again : tie.Need-loop-again Inv-loop μ-loop
 loop-again c = (omega arith, every-stays _ _ (c .before .before .before .loop .inv .1) (passes (c .before .node-sound .ensures) (c .if1 .left)))
 
 returns-2 : tie.Need-returns-2 Inv-loop μ-loop
-returns-2 c = every-done _ _ _ (c .before .loop .inv .1) (c .before .loop .inv .0) (c .loop-test .left) ∙ sound-known _ _ (c .before .before .before .pre .1)
+returns-2 c = every-done _ _ _ (c .before .loop .inv .1) (c .before .loop .inv .0) (c .loop-test .left) ∙ sound-known _ _
 
 pub is-sound-spec : {M : Type 1} → statement M
 is-sound-spec =
