@@ -1,20 +1,20 @@
 -- Sound bytes carry what they are read as, and bytes that carry a state are its stored form, with the bytes behind it. Assumes nothing.
 use mathlib.Core.Path.{_≡_, refl, sym, ap, subst, _∙_}
 use mathlib.Core.List.{List, _++_}
-use Prim.Native.Nat.{ℕ, _≤_, _<_}
+use Prim.Native.Nat.{ℕ, _<_}
 use native.Mathlib.Decide.{ℕ-discrete}
-use lib.ListN.{length, drop}
+use lib.ListN.{drop}
 use Rattle.hop_rule.specs.State.{State}
-use Rattle.hop_rule.specs.Stored.{size, stored, nodes, flat, deep, read}
+use Rattle.hop_rule.specs.Stored.{size, stored, nodes, flat, deep, readAs, read}
 use Rattle.hop_rule.specs.Sound.{Sound}
 use Rattle.hop_rule.specs.Calls.{restored}
 use Rattle.hop_laws.specs.Fine.{Fine}
-use Rattle.hop_laws.specs.Holds.{Holds}
+use Rattle.hop_laws.specs.Holds.{flatOf, deepOf}
 use Rattle.hop_laws.proofs.Rule.{route-distance-own, route-downstream-own}
-use Rattle.hop_laws.proofs.Stored.{flat-at, deep-at, held-stored}
+use Rattle.hop_laws.proofs.Stored.{held-stored}
 use Rattle.hop_laws.proofs.Read.{read-holds}
 use Rattle.hop_cells.specs.Cells.{get}
-use Rattle.hop_bridge.specs.Carries.{Tidy, Orderly, Carries, CarriesSound}
+use Rattle.hop_bridge.specs.Carries.{Filled, Tidy, Orderly, Carries, CarriesSound}
 
 -- A sound state is in order.
 sound-orderly : {t : State} → Sound t → Orderly (t .n) t
@@ -30,37 +30,26 @@ sound-orderly {t} h = record {
     go w u lw lu (no f) = rw (h .down-queues u w lu lw f) (record { differ = tt; below = tt })
 
 pub fine-carries : (s : List ℕ) → Fine s → Carries (nodes s) (drop (size (nodes s)) s) s (read s)
-unfolding read flat deep get
+unfolding readAs flat deep get
 fine-carries s h = record {
   orderly = sound-orderly (h .sound .state);
   filled = record {
     room = record { most = h .most; fits = h .room };
     head = refl;
     tail = refl;
-    flats = read-holds s (h .sound) .flats;
-    deeps = read-holds s (h .sound) .deeps;
+    flats = read-holds (nodes s) s (h .sound) .flats;
+    deeps = read-holds (nodes s) s (h .sound) .deeps;
   };
 }
 
 pub fine-sound : (s : List ℕ) → Fine s → CarriesSound (nodes s) (drop (size (nodes s)) s) s (read s)
 fine-sound s h = record { carries = fine-carries s h; sound = h .sound .state }
 
-module _ {n : ℕ} {r s : List ℕ} {t : State} (h : Carries n r s t) where
-  in-n : {a : ℕ} → a < t .n → a < n
-  in-n l = rw (h .orderly .count) at l
-
-  pub carried-holds : Holds s t
-  unfolding get
-  carried-holds = record {
-    head = h .filled .head ∙ sym (h .orderly .count);
-    flats = λ k f a b la lb. flat-at s (h .filled .head) k a b ∙ h .filled .flats k f a b (in-n la) (in-n lb);
-    deeps = λ k f a b c la lb lc. deep-at s (h .filled .head) k a b c ∙ h .filled .deeps k f a b c (in-n la) (in-n lb) (in-n lc);
-  }
-
-  pub carried-stored : s ≡ stored t ++ r
-  carried-stored =
-      let e : size (t .n) ≡ size n = ap size (h .orderly .count) in
-      held-stored (subst (λ m. m ≤ length s) (sym e) (h .filled .room .fits)) carried-holds ∙ ap (λ x. stored t ++ x) (ap (λ m. drop m s) e ∙ h .filled .tail)
+pub carried-stored : {n : ℕ} {r s : List ℕ} {t : State} → Carries n r s t → s ≡ stored t ++ r
+unfolding flat deep get
+carried-stored {r = r} {s} {t} h =
+    let f = subst (λ m. Filled m r s (flatOf t) (deepOf t)) (sym (h .orderly .count)) (h .filled) in
+    held-stored (f .room .fits) (f .head) (record { flats = f .flats; deeps = f .deeps }) ∙ ap (λ x. stored t ++ x) (f .tail)
 
 -- So the state that is carried was stored over the old one.
 pub carried-restored : {n : ℕ} {x : List ℕ} {t : State} (s : List ℕ) → Carries n (drop (size n) s) x t → x ≡ restored t s

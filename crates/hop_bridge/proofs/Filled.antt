@@ -6,11 +6,12 @@ use Prim.Native.Nat.{ℕ, _+_, _*_, _<_}
 use native.Mathlib.Decide.{ℕ-discrete}
 use native.Mathlib.Omega.{arith}
 use lib.Dec.{eqb}
-use lib.Seq.{drop-set-lt, getD-set-other}
+use lib.Seq.{drop-set-lt}
 use Rattle.hop_rule.specs.declared.Table.{Table}
 use Rattle.hop_rule.specs.declared.Table.the-variants.{Links, Distances, Downstreams, Views, Lengths, Destinations, Values}
 use Rattle.hop_rule.specs.Stored.{size, start}
 use Rattle.hop_laws.specs.Holds.{Flat, Deep}
+use Rattle.hop_laws.proofs.Stored.{nodes-kept}
 use Rattle.hop_laws.proofs.Tests.{Tells, decides, tells-as, tells-eq, tells-and, tells-same, choose-so, choose-else, tells-false}
 use Rattle.hop_cells.specs.Cells.{Room, cells, get, put, get3, put2, put3}
 use Rattle.hop_cells.proofs.Places.{cell2-lt, cell3-lt, digits-same, rank, inside, room-put, get-put-same, get-put-other, get-put-apart}
@@ -135,7 +136,7 @@ module _ {n : ℕ} {r s : List ℕ} {F : Flats} {D : Deeps} where
   unfolding put
   written h k p x l F′ D′ e g = record {
     room = room-put k p x (h .room);
-    head = getD-set-other s (start n k + p) 0 x 0 (omega (arith, start-past n k)) ∙ h .head;
+    head = nodes-kept s (start n k + p) x (omega (arith, start-past n k)) ∙ h .head;
     tail = drop-set-lt (size n) s (start n k + p) x (inside n k l) ∙ h .tail;
     flats = λ j f a b la lb. get-put n j k (a * n + b) p x s (h .room) (flat-in j f la lb) l ∙ rw (h .flats j f a b la lb) (e j f a b la lb);
     deeps = λ j f a b c la lb lc. get-put n j k ((a * n + b) * n + c) p x s (h .room) (deep-in j f la lb lc) l ∙ rw (h .deeps j f a b c la lb lc) (g j f a b c la lb lc);

@@ -6,12 +6,13 @@ use Prim.Native.Nat.{ℕ, suc, _+_, _*_, _<_}
 use native.Mathlib.Omega.{arith}
 use lib.Dec.{eqb}
 use lib.ListN.{drop, set, length-set}
-use lib.Seq.{getD-set-same, drop-set-lt}
+use lib.Seq.{drop-set-lt}
 use Rattle.hop_rule.specs.declared.Table.{Table}
 use Rattle.hop_rule.specs.declared.Table.the-variants.{Links, Distances, Downstreams, Views, Lengths, Destinations, Values}
 use Rattle.hop_rule.specs.Rule.{fresh}
 use Rattle.hop_rule.specs.Stored.{size, destinationAt, valueAt}
 use Rattle.hop_laws.specs.Holds.{flatOf, deepOf}
+use Rattle.hop_laws.proofs.Stored.{nodes-written}
 use Rattle.hop_laws.proofs.Tests.{tells-eq, tells-and, tells-as, tells-same, choose-so}
 use Rattle.hop_cells.specs.Cells.{Room, cells, put, get2, get3}
 use Rattle.hop_cells.proofs.Places.{room-as}
@@ -98,7 +99,7 @@ make-carries n s room = record {
     given : Filled n (drop (size n) s) (set s 0 n) (λ k a b. get2 n k a b (set s 0 n)) (λ k a b c. get3 n k a b c (set s 0 n))
     given = record {
       room = room-as (length-set s 0 n) room;
-      head = getD-set-same s 0 n 0 (omega (arith, room .fits));
+      head = nodes-written s n (omega (arith, room .fits));
       tail = drop-set-lt (size n) s 0 n (omega arith);
       flats = λ k f a b la lb. refl;
       deeps = λ k f a b c la lb lc. refl;
