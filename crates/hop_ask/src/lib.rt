@@ -1,7 +1,7 @@
 // The public questions about a state: no byte of it changes. None counts on its caller: each refuses by document 01's numbers, in its order, or answers what hop_rule says.
 
 use hop_cells::get2;
-use hop_cells::wide;
+use hop_cells::nodes;
 use hop_judge::judge_ends;
 use hop_judge::judge_pair;
 use hop_judge::judge_state;
@@ -27,7 +27,7 @@ pub fn distance(s: &[u8], u: usize, v: usize) -> Answer
     if c != 0 {
         return Answer::Refused(c);
     }
-    let n = wide(s[0]);
+    let n = nodes(s);
     let d = get2(s, n, Table::Distances, u, v);
     Answer::Value(d as u32)
 }
@@ -40,7 +40,7 @@ pub fn downstream(s: &[u8], u: usize, v: usize) -> Answer
     if c != 0 {
         return Answer::Refused(c);
     }
-    let n = wide(s[0]);
+    let n = nodes(s);
     let w = get2(s, n, Table::Downstreams, u, v);
     Answer::Value(w as u32)
 }
@@ -53,7 +53,7 @@ pub fn queue_length(s: &[u8], w: usize, u: usize) -> Answer
     if c != 0 {
         return Answer::Refused(c);
     }
-    let n = wide(s[0]);
+    let n = nodes(s);
     let k = get2(s, n, Table::Lengths, w, u);
     Answer::Value(k as u32)
 }
@@ -66,7 +66,7 @@ pub fn total_queued(s: &[u8]) -> Answer
     if c != 0 {
         return Answer::Refused(c);
     }
-    let n = wide(s[0]);
+    let n = nodes(s);
     let k = hop_runs::queued(s, n);
     Answer::Value(k as u32)
 }
@@ -79,7 +79,7 @@ pub fn status(s: &[u8], u: usize, out: &mut [u8]) -> Answer
     if c != 0 {
         return Answer::Refused(c);
     }
-    let n = wide(s[0]);
+    let n = nodes(s);
     let waiting_for = hop_runs::waiting_for(s, n, u);
     let waiting_from = hop_runs::waiting_from(s, n, u);
     let reached = hop_runs::reached(s, n, u);

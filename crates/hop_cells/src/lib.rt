@@ -15,7 +15,7 @@ pub fn wide(x: u8) -> usize
 }
 
 // The node count that the bytes claim: their first.
-pub fn count(s: &[u8]) -> usize
+pub fn nodes(s: &[u8]) -> usize
     requires { ⌜ 0 < length (now s) ⌝ }
     ensures { λ r. ⌜ r ≡ stored.nodes (now (s .entry)) ⌝ }
 {

@@ -1,6 +1,6 @@
 // The public calls that change a state, and check. None counts on its caller: each refuses by document 01's numbers, in its order, or does what hop_rule says.
 
-use hop_cells::wide;
+use hop_cells::nodes;
 use hop_judge::judge_deliver;
 use hop_judge::judge_down;
 use hop_judge::judge_make;
@@ -52,7 +52,7 @@ pub fn up(s: &mut [u8], a: usize, b: usize) -> u32
     if c != 0 {
         return c;
     }
-    let n = wide(s[0]);
+    let n = nodes(s);
     hop_steps::link_up(s, n, a, b);
     0
 }
@@ -65,7 +65,7 @@ pub fn down(s: &mut [u8], a: usize, b: usize) -> u32
     if c != 0 {
         return c;
     }
-    let n = wide(s[0]);
+    let n = nodes(s);
     hop_steps::link_down(s, n, a, b);
     0
 }
@@ -78,7 +78,7 @@ pub fn deliver(s: &mut [u8], w: usize, u: usize) -> u32
     if c != 0 {
         return c;
     }
-    let n = wide(s[0]);
+    let n = nodes(s);
     hop_steps::deliver(s, n, w, u);
     0
 }
@@ -91,7 +91,7 @@ pub fn pass(s: &mut [u8]) -> PassAnswer
     if c != 0 {
         return PassAnswer::Refused(c);
     }
-    let n = wide(s[0]);
+    let n = nodes(s);
     let d = hop_runs::queued(s, n);
     hop_runs::pass(s, n);
     PassAnswer::Delivered(d as u32)
@@ -111,7 +111,7 @@ pub fn run(s: &mut [u8], allowance: u8) -> RunAnswer
     if c != 0 {
         return RunAnswer::Refused(c);
     }
-    let n = wide(s[0]);
+    let n = nodes(s);
     let r = hop_runs::run(s, n, count(allowance));
     RunAnswer::Made(r.passes, r.deliveries)
 }

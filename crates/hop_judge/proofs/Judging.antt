@@ -9,7 +9,7 @@ use lib.ListN.{length}
 use borrow.Author.Tests.{eq-eqb, ne-eqb, lt-ltb, le-ltb, lt-leb, le-leb}
 use Rattle.hop_rule.specs.declared.Table.the-variants.{Links, Lengths}
 use Rattle.hop_rule.specs.Stored.{size, nodes}
-use Rattle.hop_rule.specs.Sound.{isSoundBytes}
+use Rattle.hop_rule.specs.Sound.{isSoundAs, isSoundBytes}
 use Rattle.hop_rule.specs.Calls.{Refusal, judge, empty, badCount, short, notSound, noNode, isUp, nothingWaits, onState}
 use Rattle.hop_laws.proofs.Calls.{judge-applies, judge-next, judge-first, judge-passed, Numbered, tells-bad-count, count-good}
 use Rattle.hop_cells.specs.Cells.{get2}
@@ -54,16 +54,19 @@ module _ (s : List ℕ) (some : length s ≢ 0) {n : ℕ} (claim : n ≡ nodes s
     pub short-state : length s < size n → 2 ≡ judge (onState s [])
     short-state b = short-buffer s (nodes s) _ (rw claim at least) (rw claim at most) (rw claim at b) ∙ claimed
 
-    module _ (room : size n ≤ length s) {b : Bool} (judged : b ≡ isSoundBytes s) where
+    module _ (room : size n ≤ length s) {b : Bool} (judged : b ≡ isSoundAs n s) where
       last : judge (notSound s ∷ []) ≡ judge (onState s [])
       last = long-buffer s (nodes s) _ (rw claim at least) (rw claim at most) (rw claim at room) ∙ claimed
 
+      is-judged : isSoundBytes s ≡ b
+      is-judged = sym (judged ∙ ap (λ m. isSoundAs m s) claim)
+
       pub unsound-state : b ≡ false → 3 ≡ judge (onState s [])
-      unsound-state e = sym (judge-applies (notSound s) [] (ap not (sym judged ∙ e))) ∙ last
+      unsound-state e = sym (judge-applies (notSound s) [] (ap not (is-judged ∙ e))) ∙ last
 
       pub sound-state : b ≡ true → 0 ≡ judge (onState s [])
       unfolding judge
-      sound-state e = sym (judge-next (notSound s) [] (ap not (sym judged ∙ e))) ∙ last
+      sound-state e = sym (judge-next (notSound s) [] (ap not (is-judged ∙ e))) ∙ last
 
 -- ---- the refusals after them, by what the code read: n is the first byte, handed in
 

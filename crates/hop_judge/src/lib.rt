@@ -1,8 +1,8 @@
 // Refusals: each function answers the number of the first refusal that applies to a call, or 0, in document 01's order. No byte is changed.
 
 use hop_cells::get2;
+use hop_cells::nodes;
 use hop_cells::size;
-use hop_cells::wide;
 use hop_rule::Table;
 use hop_sound::is_sound;
 ghost use mathlib.Core.Path.{_≡_};
@@ -16,7 +16,7 @@ pub fn judge_state(s: &[u8]) -> u32
     if s.len() == 0 {
         return 2;
     }
-    let n = wide(s[0]);
+    let n = nodes(s);
     if n == 0 {
         return 1;
     }
@@ -40,7 +40,7 @@ pub fn judge_node(s: &[u8], a: usize) -> u32
     if c != 0 {
         return c;
     }
-    let n = wide(s[0]);
+    let n = nodes(s);
     if n <= a {
         return 4;
     }
@@ -55,7 +55,7 @@ pub fn judge_pair(s: &[u8], a: usize, b: usize) -> u32
     if c != 0 {
         return c;
     }
-    let n = wide(s[0]);
+    let n = nodes(s);
     if n <= b {
         return 4;
     }
@@ -84,7 +84,7 @@ pub fn judge_up(s: &[u8], a: usize, b: usize) -> u32
     if c != 0 {
         return c;
     }
-    let n = wide(s[0]);
+    let n = nodes(s);
     if get2(s, n, Table::Links, a, b) == 1 {
         return 6;
     }
@@ -99,7 +99,7 @@ pub fn judge_down(s: &[u8], a: usize, b: usize) -> u32
     if c != 0 {
         return c;
     }
-    let n = wide(s[0]);
+    let n = nodes(s);
     if get2(s, n, Table::Links, a, b) != 1 {
         return 7;
     }
@@ -114,7 +114,7 @@ pub fn judge_deliver(s: &[u8], w: usize, u: usize) -> u32
     if c != 0 {
         return c;
     }
-    let n = wide(s[0]);
+    let n = nodes(s);
     if get2(s, n, Table::Lengths, w, u) == 0 {
         return 8;
     }

@@ -15,12 +15,12 @@ use Rattle.hop_rule.specs.declared.Reading.the-variants.{Found, End, Refused}
 use Rattle.hop_rule.specs.State.{State}
 use Rattle.hop_rule.specs.Rule as rule
 use Rattle.hop_rule.specs.Rule.{fresh, linkUp, linkDown, cut, total}
-use Rattle.hop_rule.specs.Stored.{size, stored, nodes, read}
+use Rattle.hop_rule.specs.Stored.{size, stored, nodes, readAs, read}
 use Rattle.hop_rule.specs.Sound.{Sound}
 use Rattle.hop_rule.specs.Records.{readEvent}
 use Rattle.hop_rule.specs.Calls.{Call, make, check, up, down, deliver, pass, totalQueued, Refusal, Outcome, badCount, short, noNode, oneNode, isUp, isDown, nothingWaits, onState, judge, refusals, answerAt, done, outcome}
 use Rattle.hop_laws.specs.Fine.{Fine}
-use Rattle.hop_laws.proofs.Stored.{length-stored, stored-holds}
+use Rattle.hop_laws.proofs.Stored.{nodes-stored, length-stored}
 use Rattle.hop_laws.proofs.Sound.{sound-bytes-tells}
 use Rattle.hop_laws.proofs.Read.{stored-sound}
 use Rattle.hop_laws.proofs.Fresh.{fresh-sound}
@@ -45,7 +45,7 @@ down-n s a b = recompute-all-n _ b ∙ recompute-all-n (cut s a b) a
 stored-fine : (t : State) (r : List ℕ) → Sound t → 1 ≤ t .n → t .n ≤ 40 → Fine (stored t ++ r)
 unfolding size
 stored-fine t r sound least most =
-    let head = stored-holds t r .head in
+    let head = nodes-stored t r in
     let long = length-append (stored t) r in
     let fits = length-stored t in
     record {
@@ -84,7 +84,7 @@ ends-known s a b more z =
     (leb-false (nodes s) a first, leb-false (nodes s) b second, eqb-false a b apart, z₃)
 
 pub event-fine : (e : Event) (s : List ℕ) → Fine s → Fine (outcome (callOf e) s [] .bytes)
-unfolding callOf refusals done read
+unfolding callOf refusals done readAs
 event-fine (Make n) s fine = make-fine n s (λ f. fine)
 event-fine (Up a b) s fine = step-fine (up a b) s (linkUp (read s) a b) refl fine (up-n (read s) a b) (λ z.
     let (la, lb, apart, last) = ends-known s a b (isUp s a b ∷ []) z in

@@ -1,5 +1,5 @@
 -- Lines for 0, 1, .. n − 1, written one behind the other by a loop. Assumes nothing.
-use mathlib.Core.Path.{_≡_}
+use mathlib.Core.Path.{_≡_, refl}
 use mathlib.Core.List.{List, _++_}
 use Prim.Native.Nat.{ℕ, zero, suc, _+_, _≤_, _<_}
 use native.Mathlib.Numerals.{add-one}
@@ -8,8 +8,7 @@ use native.Mathlib.Omega.{arith}
 use lib.ListN.{length, length-append}
 use Rattle.hop_rule.specs.declared.Table.the-variants.{Distances, Downstreams}
 use Rattle.hop_rule.specs.Words.{joined}
-use Rattle.hop_rule.specs.Stored.{nodes, read}
-use Rattle.hop_laws.proofs.Stored.{flat-at}
+use Rattle.hop_rule.specs.Stored.{flat, readAs}
 use Rattle.hop_cells.specs.Cells.{get, get2}
 use Rattle.hop_text.specs.Text.{routeLine}
 use Rattle.hop_text.specs.Writing.{Ends, Wrote}
@@ -41,16 +40,16 @@ module _ (f : ℕ → List ℕ) where
 
 -- ---- the lines of the state that bytes hold
 
-module _ (s : List ℕ) {n : ℕ} (e : nodes s ≡ n) where
+module _ (n : ℕ) (s : List ℕ) where
   -- The line of a pair, from the two bytes that were read.
-  pub route-read : (u v : ℕ) {d w : ℕ} → d ≡ get2 n Distances u v s → w ≡ get2 n Downstreams u v s → routeLine u v d w ≡ routeAt (read s) u v
-  unfolding routeAt read get
-  route-read u v h k = rw (h, k, flat-at s e Distances u v, flat-at s e Downstreams u v)
+  pub route-read : (u v : ℕ) {d w : ℕ} → d ≡ get2 n Distances u v s → w ≡ get2 n Downstreams u v s → routeLine u v d w ≡ routeAt (readAs n s) u v
+  unfolding routeAt readAs flat get
+  route-read u v h k = rw (h, k)
 
-  pub from-lines : (u : ℕ) → routesFrom (read s) u ≡ joined n (routeAt (read s) u)
-  unfolding routesFrom read
-  from-lines u = rw e
+  pub from-lines : (u : ℕ) → routesFrom (readAs n s) u ≡ joined n (routeAt (readAs n s) u)
+  unfolding routesFrom readAs
+  from-lines u = refl
 
-  pub all-lines : routeLines (read s) ≡ joined n (routesFrom (read s))
-  unfolding routeLines read
-  all-lines = rw e
+  pub all-lines : routeLines (readAs n s) ≡ joined n (routesFrom (readAs n s))
+  unfolding routeLines readAs
+  all-lines = refl

@@ -16,7 +16,7 @@ use Rattle.hop_rule.specs.declared.Reading.the-variants.{Found, End, Refused}
 use Rattle.hop_rule.specs.Words.{joined}
 use Rattle.hop_rule.specs.State.{State}
 use Rattle.hop_rule.specs.Rule.{route}
-use Rattle.hop_rule.specs.Stored.{read}
+use Rattle.hop_rule.specs.Stored.{readAs, read}
 use Rattle.hop_rule.specs.Sound.{Sound}
 use Rattle.hop_rule.specs.Records.{wordAt, kindOf, known, lengthOf, readEvent}
 use Rattle.hop_rule.specs.Calls.{Refusal, Outcome, make, check, totalQueued, judge, refusals, answerAt, done, outcome}
@@ -87,7 +87,7 @@ reading-small s p =
     (small-either (ltb (length s) (p + 2 + wordAt s p)) (refused 9 (omega arith)) found)))))
 
 queued-small : (s : List ℕ) → queued s < 100000
-unfolding queued refusals done read
+unfolding queued refusals done readAs
 queued-small s = go (ℕ-discrete (judge (refusals totalQueued s [])) 0)
   where
     go : Dec (judge (refusals totalQueued s []) ≡ 0) → answerAt 0 (outcome totalQueued s []) < 100000
@@ -151,7 +151,7 @@ lines-short s sound most = omega (arith, joined-short (s .n) 560 (routesFrom s) 
         route-short u v _ _ (omega arith) (omega arith) (omega arith) (downstream-small s u v sound most l m)
 
 routes-short : (s : List ℕ) → length (routes s) ≤ 22400
-unfolding read
+unfolding readAs
 routes-short s = go (ℕ-discrete (outcome check s [] .number) 0)
   where
     go : Dec (outcome check s [] .number ≡ 0) → length (routes s) ≤ 22400

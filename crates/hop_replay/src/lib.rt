@@ -3,7 +3,7 @@
 use hop_ask::Answer;
 use hop_ask::total_queued;
 use hop_cells::get2;
-use hop_cells::wide;
+use hop_cells::nodes;
 use hop_core::PassAnswer;
 use hop_reader::read_from;
 use hop_rule::Event;
@@ -16,7 +16,7 @@ ghost use mathlib.Core.Path.{_≡_};
 ghost use mathlib.Core.List.{[]};
 ghost use Prim.Native.Nat.{_≤_, _<_};
 ghost use lib.ListN.{take};
-ghost use Rattle.hop_rule.specs.Stored.{nodes, read};
+ghost use Rattle.hop_rule.specs.Stored.{readAs};
 ghost use Rattle.hop_rule.specs.Records.{kindOf};
 ghost use Rattle.hop_rule.specs.Calls.{outcome};
 ghost use Rattle.hop_cells.specs.Cells.{Room};
@@ -104,8 +104,8 @@ fn put_events(script: &[u8], state: &mut [u8], out: &mut [u8], at: usize) -> usi
 
 // The routes of one node.
 fn put_routes_from(state: &[u8], n: usize, u: usize, out: &mut [u8], at: usize) -> usize
-    requires { ⌜ Room n (now state) × (nodes (now state) ≡ n) × (u < n) × Ends (routesFrom (read (now state)) u) at ⌝ }
-    ensures { λ r. ⌜ Wrote (routesFrom (read (now (state .entry))) u) (now (out .entry)) at (now (out .exit)) r ⌝ }
+    requires { ⌜ Room n (now state) × (u < n) × Ends (routesFrom (readAs n (now state)) u) at ⌝ }
+    ensures { λ r. ⌜ Wrote (routesFrom (readAs n (now (state .entry))) u) (now (out .entry)) at (now (out .exit)) r ⌝ }
 {
     let mut next = at;
     let mut v = 0;
@@ -120,8 +120,8 @@ fn put_routes_from(state: &[u8], n: usize, u: usize, out: &mut [u8], at: usize) 
 
 // The routes of every node.
 fn put_all_routes(state: &[u8], n: usize, out: &mut [u8], at: usize) -> usize
-    requires { ⌜ Room n (now state) × (nodes (now state) ≡ n) × Ends (routeLines (read (now state))) at ⌝ }
-    ensures { λ r. ⌜ Wrote (routeLines (read (now (state .entry)))) (now (out .entry)) at (now (out .exit)) r ⌝ }
+    requires { ⌜ Room n (now state) × Ends (routeLines (readAs n (now state))) at ⌝ }
+    ensures { λ r. ⌜ Wrote (routeLines (readAs n (now (state .entry)))) (now (out .entry)) at (now (out .exit)) r ⌝ }
 {
     let mut next = at;
     let mut u = 0;
@@ -140,7 +140,7 @@ fn put_routes(state: &[u8], out: &mut [u8], at: usize) -> usize
     if hop_core::check(state) != 0 {
         return at;
     }
-    put_all_routes(state, wide(state[0]), out, at)
+    put_all_routes(state, nodes(state), out, at)
 }
 
 // The part of a script that is read.

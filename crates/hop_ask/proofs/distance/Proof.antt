@@ -14,24 +14,21 @@ returns : tie.Need-returns
 unfolding refusals
 returns c = call-refused _ _ _ (c .before .judge-pair .ensures) (c .if1 .taken)
 
-shared-slice-read-wide : tie.Need-shared-slice-read-wide
-shared-slice-read-wide c = fine-known (c .before .before .before .before .args .s .now) _ (c .before .before .judge-pair .ensures) (c .before .if1 .left) .some
-
-wide-requires : tie.Need-wide-requires
-wide-requires c κs = search needs
+nodes-requires : tie.Need-nodes-requires
+nodes-requires c κs = fine-known (c .before .before .before .args .s .now) _ (c .before .judge-pair .ensures) (c .if1 .left) .some
 
 get2-requires : tie.Need-get2-requires
-get2-requires c κs = cell-ready _ _ _ _ (c .before .before .before .judge-pair .ensures) (c .before .before .if1 .left) (c .wide .ensures .0)
+get2-requires c κs = cell-ready _ _ _ _ (c .before .before .judge-pair .ensures) (c .before .if1 .left) (c .nodes .ensures)
 
-cast-t11 : tie.Need-cast-t11
-cast-t11 c = search needs
+cast-t9 : tie.Need-cast-t9
+cast-t9 c = search needs
 
 returns-2 : tie.Need-returns-2
 unfolding refusals
 returns-2 c =
-    let at-wide = c .before in
-    let at-if1 = at-wide .before .before in
-    distance-asked _ _ _ (at-if1 .if1 .left) (at-wide .wide .ensures .0) (at-if1 .before .judge-pair .ensures) (c .get2 .ensures .0)
+    let at-nodes = c .before in
+    let at-if1 = at-nodes .before in
+    distance-asked _ _ _ (at-if1 .if1 .left) (at-nodes .nodes .ensures) (at-if1 .before .judge-pair .ensures) (c .get2 .ensures .0)
 
 pub distance-spec : {M : Type 1} → statement M
 distance-spec =
@@ -39,8 +36,7 @@ distance-spec =
     (tie.spec
     judge-pair-requires
     returns
-    shared-slice-read-wide
-    wide-requires
+    nodes-requires
     get2-requires
-    cast-t11
+    cast-t9
     returns-2)

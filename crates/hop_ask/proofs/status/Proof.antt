@@ -7,12 +7,12 @@ use Rattle.hop_ask.proofs.status.Tie as tie
 
 -- The five numbers as the code has them where all are counted.
 counted : (c : tie.After-queued)
-    → let at-wide = c .before .before .before .before in
-    let at = at-wide .before .before .before .before .before .before .before .args in
-    Counted (at .s .now) (at-wide .wide .result) (at .u) (c .before .before .before .waiting-for .result) (c .before .before .waiting-from .result) (c .before .reached .result) (c .queued .result)
+    → let at-nodes = c .before .before .before .before in
+    let at = at-nodes .before .before .before .before .before .before .args in
+    Counted (at .s .now) (at-nodes .nodes .result) (at .u) (c .before .before .before .waiting-for .result) (c .before .before .waiting-from .result) (c .before .reached .result) (c .queued .result)
 counted c =
     record {
-      claim = c .before .before .before .before .wide .ensures .0;
+      claim = c .before .before .before .before .nodes .ensures;
       for-it = c .before .before .before .waiting-for .ensures .0;
       from-it = c .before .before .waiting-from .ensures .0;
       reaches = c .before .reached .ensures .0;
@@ -28,14 +28,11 @@ same-length c = search needs
 returns : tie.Need-returns
 returns c = call-refused _ _ _ (c .before .judge-status .ensures) (c .if1 .taken)
 
-shared-slice-read-wide : tie.Need-shared-slice-read-wide
-shared-slice-read-wide c = status-fine _ _ _ (c .before .before .judge-status .ensures) (c .before .if1 .left) .some
-
-wide-requires : tie.Need-wide-requires
-wide-requires c κs = search needs
+nodes-requires : tie.Need-nodes-requires
+nodes-requires c κs = status-fine _ _ _ (c .before .judge-status .ensures) (c .if1 .left) .some
 
 waiting-for-requires : tie.Need-waiting-for-requires
-waiting-for-requires c κs = status-counts _ _ _ (c .before .before .before .judge-status .ensures) (c .before .before .if1 .left) (c .wide .ensures .0)
+waiting-for-requires c κs = status-counts _ _ _ (c .before .before .judge-status .ensures) (c .before .if1 .left) (c .nodes .ensures)
 
 waiting-from-requires : tie.Need-waiting-from-requires
 waiting-from-requires c κs = waiting-for-requires (c .before) κs
@@ -48,7 +45,7 @@ queued-requires c κs = reached-requires (c .before) κs .0
 
 write-status-requires : tie.Need-write-status-requires
 write-status-requires c κs =
-    let at-if1 = c .before .before .before .before .before .before .before in
+    let at-if1 = c .before .before .before .before .before .before in
     status-ready _ _ _ (at-if1 .before .judge-status .ensures) (at-if1 .if1 .left) (counted (c .before))
 
 same-length-2 : tie.Need-same-length-2
@@ -58,7 +55,7 @@ returns-2 : tie.Need-returns-2
 returns-2 c =
     let at-write-status = c .before .before in
     let at-queued = at-write-status .before .before in
-    let at-if1 = at-queued .before .before .before .before .before .before in
+    let at-if1 = at-queued .before .before .before .before .before in
     status-asked _ _ _ (at-if1 .before .judge-status .ensures) (at-if1 .if1 .left) (counted at-queued) (at-write-status .write-status .ensures)
 
 pub status-spec : {M : Type 1} → statement M
@@ -68,8 +65,7 @@ status-spec =
     judge-status-requires
     same-length
     returns
-    shared-slice-read-wide
-    wide-requires
+    nodes-requires
     waiting-for-requires
     waiting-from-requires
     reached-requires

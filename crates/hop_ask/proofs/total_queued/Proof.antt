@@ -15,23 +15,20 @@ returns : tie.Need-returns
 unfolding refusals
 returns c = call-refused _ _ _ (c .before .judge-state .ensures) (c .if1 .taken)
 
-shared-slice-read-wide : tie.Need-shared-slice-read-wide
-shared-slice-read-wide c = fine-known (c .before .before .before .before .args .s .now) [] (c .before .before .judge-state .ensures) (c .before .if1 .left) .some
-
-wide-requires : tie.Need-wide-requires
-wide-requires c κs = search needs
+nodes-requires : tie.Need-nodes-requires
+nodes-requires c κs = fine-known (c .before .before .before .args .s .now) [] (c .before .judge-state .ensures) (c .if1 .left) .some
 
 queued-requires : tie.Need-queued-requires
-queued-requires c κs = fine-room (fine-known _ [] (c .before .before .before .judge-state .ensures) (c .before .before .if1 .left)) (c .wide .ensures .0)
+queued-requires c κs = fine-room (fine-known _ [] (c .before .before .judge-state .ensures) (c .before .if1 .left)) (c .nodes .ensures)
 
-cast-t8 : tie.Need-cast-t8
-cast-t8 c = search needs
+cast-t6 : tie.Need-cast-t6
+cast-t6 c = search needs
 
 returns-2 : tie.Need-returns-2
 returns-2 c =
-    let at-wide = c .before in
-    let at-if1 = at-wide .before .before in
-    total-asked _ (at-if1 .before .judge-state .ensures) (at-if1 .if1 .left) (at-wide .wide .ensures .0) (c .queued .ensures .0)
+    let at-nodes = c .before in
+    let at-if1 = at-nodes .before in
+    total-asked _ (at-if1 .before .judge-state .ensures) (at-if1 .if1 .left) (at-nodes .nodes .ensures) (c .queued .ensures .0)
 
 pub total-queued-spec : {M : Type 1} → statement M
 total-queued-spec =
@@ -39,8 +36,7 @@ total-queued-spec =
     (tie.spec
     judge-state-requires
     returns
-    shared-slice-read-wide
-    wide-requires
+    nodes-requires
     queued-requires
-    cast-t8
+    cast-t6
     returns-2)

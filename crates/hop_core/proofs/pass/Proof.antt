@@ -18,14 +18,11 @@ returns : tie.Need-returns
 unfolding refusals
 returns c = call-refused _ _ _ (c .before .judge-state .ensures) (c .if1 .taken)
 
-slice-read-wide : tie.Need-slice-read-wide
-slice-read-wide c = fine-known (c .before .before .before .before .before .args .s .now) [] (c .before .before .judge-state .ensures) (c .before .if1 .left) .some
-
-wide-requires : tie.Need-wide-requires
-wide-requires c κs = search needs
+nodes-requires : tie.Need-nodes-requires
+nodes-requires c κs = fine-known (c .before .before .before .before .before .args .s .now) [] (c .before .before .judge-state .ensures) (c .before .if1 .left) .some
 
 queued-requires : tie.Need-queued-requires
-queued-requires c κs = fine-room (fine-known _ [] (c .before .before .before .before .judge-state .ensures) (c .before .before .before .if1 .left)) (c .before .wide .ensures .0)
+queued-requires c κs = fine-room (fine-known _ [] (c .before .before .before .before .judge-state .ensures) (c .before .before .before .if1 .left)) (c .before .nodes .ensures)
 
 pass-requires : tie.Need-pass-requires
 pass-requires c κs = queued-requires (c .before .before) κs
@@ -40,9 +37,9 @@ returns-2 : tie.Need-returns-2
 returns-2 c =
     let at-pass = c .before .before in
     let at-queued = at-pass .before .before in
-    let at-wide = at-queued .before .before in
-    let at-if1 = at-wide .before .before in
-    pass-done _ (at-if1 .before .judge-state .ensures) (at-if1 .if1 .left) (at-wide .wide .ensures .0) (at-queued .queued .ensures .0) (at-pass .pass .ensures)
+    let at-nodes = at-queued .before .before in
+    let at-if1 = at-nodes .before .before in
+    pass-done _ (at-if1 .before .judge-state .ensures) (at-if1 .if1 .left) (at-nodes .nodes .ensures) (at-queued .queued .ensures .0) (at-pass .pass .ensures)
 
 pub pass-spec : {M : Type 1} → statement M
 pass-spec =
@@ -51,8 +48,7 @@ pass-spec =
     judge-state-requires
     same-length
     returns
-    slice-read-wide
-    wide-requires
+    nodes-requires
     queued-requires
     pass-requires
     cast-t15

@@ -19,11 +19,8 @@ returns : tie.Need-returns
 unfolding refusals
 returns c = call-refused _ _ _ (c .before .judge-state .ensures) (c .if1 .taken)
 
-slice-read-wide : tie.Need-slice-read-wide
-slice-read-wide c = fine-known (c .before .before .before .before .before .args .s .now) [] (c .before .before .judge-state .ensures) (c .before .if1 .left) .some
-
-wide-requires : tie.Need-wide-requires
-wide-requires c κs = search needs
+nodes-requires : tie.Need-nodes-requires
+nodes-requires c κs = fine-known (c .before .before .before .before .before .args .s .now) [] (c .before .before .judge-state .ensures) (c .before .if1 .left) .some
 
 count-requires : tie.Need-count-requires
 count-requires c κs = search needs
@@ -31,7 +28,7 @@ count-requires c κs = search needs
 run-requires : tie.Need-run-requires
 run-requires c κs =
     let fine = fine-known _ [] (c .before .before .before .before .before .judge-state .ensures) (c .before .before .before .before .if1 .left) in
-    (fine-room fine (c .before .before .wide .ensures .0), omega arith)
+    (fine-room fine (c .before .before .nodes .ensures), omega arith)
 
 same-length-2 : tie.Need-same-length-2
 same-length-2 c = search needs
@@ -40,11 +37,11 @@ returns-2 : tie.Need-returns-2
 returns-2 c =
     let at-run = c .before .before in
     let at-count = at-run .before in
-    let at-wide = at-count .before .before in
-    let at-if1 = at-wide .before .before in
+    let at-nodes = at-count .before .before in
+    let at-if1 = at-nodes .before .before in
     let allowed = at-count .count .ensures .0 in
     let (did, left) = at-run .run .ensures in
-    run-done _ (at-if1 .before .judge-state .ensures) (at-if1 .if1 .left) _ (at-wide .wide .ensures .0) (rw allowed at did) (rw allowed at left)
+    run-done _ (at-if1 .before .judge-state .ensures) (at-if1 .if1 .left) _ (at-nodes .nodes .ensures) (rw allowed at did) (rw allowed at left)
 
 pub run-spec : {M : Type 1} → statement M
 run-spec =
@@ -53,8 +50,7 @@ run-spec =
     judge-state-requires
     same-length
     returns
-    slice-read-wide
-    wide-requires
+    nodes-requires
     count-requires
     run-requires
     same-length-2

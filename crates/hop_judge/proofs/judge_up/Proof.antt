@@ -14,27 +14,24 @@ returns : tie.Need-returns
 unfolding refusals
 returns c = refused-already _ (c .before .judge-ends .ensures) _ (c .if1 .taken)
 
-shared-slice-read-wide : tie.Need-shared-slice-read-wide
-shared-slice-read-wide c = fine-known (c .before .before .before .before .args .s .now) _ (c .before .before .judge-ends .ensures) (c .before .if1 .left) .some
-
-wide-requires : tie.Need-wide-requires
-wide-requires c κs = search needs
+nodes-requires : tie.Need-nodes-requires
+nodes-requires c κs = fine-known (c .before .before .before .args .s .now) _ (c .before .judge-ends .ensures) (c .if1 .left) .some
 
 get2-requires : tie.Need-get2-requires
-get2-requires c κs = cell-ready _ _ _ _ (c .before .before .before .judge-ends .ensures) (c .before .before .if1 .left) (c .wide .ensures .0)
+get2-requires c κs = cell-ready _ _ _ _ (c .before .before .judge-ends .ensures) (c .before .if1 .left) (c .nodes .ensures)
 
 returns-2 : tie.Need-returns-2
 unfolding refusals
 returns-2 c =
-    let at-if1 = c .before .before .before .before in
-    let test = link-up _ (c .before .before .wide .ensures .0) _ _ (c .before .get2 .ensures .0) (c .if2 .taken) in
+    let at-if1 = c .before .before .before in
+    let test = link-up _ (c .before .before .nodes .ensures) _ _ (c .before .get2 .ensures .0) (c .if2 .taken) in
     refused-next _ (at-if1 .before .judge-ends .ensures) _ (omega arith) (at-if1 .if1 .left) test
 
 returns-3 : tie.Need-returns-3
 unfolding refusals
 returns-3 c =
-    let at-if1 = c .before .before .before .before in
-    let test = link-down _ (c .before .before .wide .ensures .0) _ _ (c .before .get2 .ensures .0) (c .if2 .left) in
+    let at-if1 = c .before .before .before in
+    let test = link-down _ (c .before .before .nodes .ensures) _ _ (c .before .get2 .ensures .0) (c .if2 .left) in
     passed-next _ (at-if1 .before .judge-ends .ensures) _ (omega arith) (at-if1 .if1 .left) test
 
 pub judge-up-spec : {M : Type 1} → statement M
@@ -43,8 +40,7 @@ judge-up-spec =
     (tie.spec
     judge-ends-requires
     returns
-    shared-slice-read-wide
-    wide-requires
+    nodes-requires
     get2-requires
     returns-2
     returns-3)

@@ -4,7 +4,7 @@ use Prim.Native.Nat.{_-_, _≤_}
 use native.Mathlib.Omega.{arith}
 use borrow.Author.Needs.{needs}
 use Rattle.hop_rule.specs.Words.{joined}
-use Rattle.hop_rule.specs.Stored.{read}
+use Rattle.hop_rule.specs.Stored.{readAs}
 use Rattle.hop_text.specs.Writing.{Wrote}
 use Rattle.hop_text.proofs.Writing.{wrote-length}
 use Rattle.hop_replay.specs.Replay.{routeAt}
@@ -13,7 +13,7 @@ use Rattle.hop_replay.proofs.put_routes_from.Statement.{statement}
 use Rattle.hop_replay.proofs.put_routes_from.Tie as tie
 
 abbrev Inv-loop : tie.InvT-loop
-Inv-loop state n u out₀ at next₀ v₀ out next v = (v ≤ n) × Wrote (joined v (routeAt (read state) u)) out₀ at out next
+Inv-loop state n u out₀ at next₀ v₀ out next v = (v ≤ n) × Wrote (joined v (routeAt (readAs n state) u)) out₀ at out next
 
 abbrev μ-loop : tie.MeasureT-loop
 μ-loop state n u out₀ at next₀ v₀ out next v = n - v
@@ -35,9 +35,8 @@ put-route-requires c κs =
     let at-loop = at-loop-test .before in
     let at-args = at-loop .before .before .before in
     let s = at-args .args .state .now in
-    let n = at-args .pre .1 in
-    rw (route-read s n (at-args .args .u) (at-loop .loop .v) (at-get2 .get2 .ensures .0) (at-get22 .get22 .ensures .0))
-    (joined-ends (routeAt (read s) (at-args .args .u)) (at-loop .loop .v) _ (at-loop-test .loop-test .taken) (rw (from-lines s n (at-args .args .u)) at (at-args .pre .3)) (at-loop .loop .inv .1))
+    rw (route-read _ s (at-args .args .u) (at-loop .loop .v) (at-get2 .get2 .ensures .0) (at-get22 .get22 .ensures .0))
+    (joined-ends (routeAt (readAs _ s) (at-args .args .u)) (at-loop .loop .v) _ (at-loop-test .loop-test .taken) (rw (from-lines _ s (at-args .args .u)) at (at-args .pre .2)) (at-loop .loop .inv .1))
 
 add-v : tie.Need-add-v Inv-loop μ-loop
 add-v c = search needs
@@ -53,8 +52,7 @@ loop-again c =
     let at-loop = at-get2 .before .before in
     let at-args = at-loop .before .before .before in
     let s = at-args .args .state .now in
-    let n = at-args .pre .1 in
-    (search needs, joined-turn (routeAt (read s) (at-args .args .u)) (at-loop .loop .v) (at-loop .loop .inv .1) (rw (route-read s n (at-args .args .u) (at-loop .loop .v) (at-get2 .get2 .ensures .0) (at-get22 .get22 .ensures .0)) at (at-put-route .put-route .ensures)))
+    (search needs, joined-turn (routeAt (readAs _ s) (at-args .args .u)) (at-loop .loop .v) (at-loop .loop .inv .1) (rw (route-read _ s (at-args .args .u) (at-loop .loop .v) (at-get2 .get2 .ensures .0) (at-get22 .get22 .ensures .0)) at (at-put-route .put-route .ensures)))
 
 same-length : tie.Need-same-length Inv-loop μ-loop
 same-length c = wrote-length (c .before .loop .inv .1)
@@ -64,7 +62,7 @@ returns c =
     let at-loop = c .before in
     let at-args = at-loop .before .before .before in
     let v : at-loop .loop .v ≡ at-args .args .n = omega (arith, at-loop .loop .inv .0, c .loop-test .left) in
-    rw (from-lines (at-args .args .state .now) (at-args .pre .1) (at-args .args .u), ← v) (at-loop .loop .inv .1)
+    rw (from-lines (at-args .args .n) (at-args .args .state .now) (at-args .args .u)) (rw v at (at-loop .loop .inv .1))
 
 pub put-routes-from-spec : {M : Type 1} → statement M
 put-routes-from-spec =
