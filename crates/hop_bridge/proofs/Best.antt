@@ -9,9 +9,9 @@ use native.Mathlib.Omega.{arith}
 use lib.Dec.{eqb, ltb}
 use Rattle.hop_rule.specs.declared.Table.the-variants.{Links, Views}
 use Rattle.hop_rule.specs.State.{State}
-use Rattle.hop_rule.specs.Rule.{least, nearest, route}
+use Rattle.hop_rule.specs.Rule.{least, distanceOf, downstreamOf}
 use Rattle.hop_laws.proofs.Tests.{Tells, tells-eq, tells-lt, tells-and, choose-so, choose-else}
-use Rattle.hop_laws.proofs.Rule.{least-most, least-under, nearest-none, nearest-is, route-distance-other, route-downstream-other}
+use Rattle.hop_laws.proofs.Rule.{least-most, least-under, distanceOf-other, downstreamOf-none, downstreamOf-is}
 use Rattle.hop_steps.specs.declared.Best.{Best}
 use Rattle.hop_steps.specs.Steps.{nearer, best}
 use Rattle.hop_bridge.specs.Carries.{Carries}
@@ -26,9 +26,9 @@ record Found (t : State) (u v k : ℕ) (b : Best) : Type 0 where
   gives : b .distance < t .n → suc (t .view u (b .downstream) v) ≡ b .distance
   lowest : (w : ℕ) → w < k → t .link u w ≡ 1 → suc (t .view u w v) ≡ b .distance → b .distance < t .n → b .downstream ≤ w
 
--- The route as the code has it.
+-- What recompute gives, as the code has it.
 abbrev pub found : State → ℕ → ℕ → Best
-found t u v = record { distance = route t u v .distance; downstream = route t u v .downstream }
+found t u v = record { distance = distanceOf t u v; downstream = downstreamOf t u v (distanceOf t u v) }
 
 module _ (t : State) (u v : ℕ) where
   found-none : Found t u v 0 (record { distance = t .n; downstream = 255 })
@@ -90,15 +90,15 @@ module _ (t : State) (u v : ℕ) where
   -- What all neighbours give is the route.
   found-route : (b : Best) → u ≢ v → Found t u v (t .n) b → b ≡ found t u v
   found-route b f g =
-      let d : b .distance ≡ route t u v .distance = g .distance ∙ sym (route-distance-other t u v f) in
-      let x : b .downstream ≡ route t u v .downstream = go (ℕ-discrete (b .distance) (t .n)) ∙ ap (nearest t u v) d ∙ sym (route-downstream-other t u v f) in
+      let d : b .distance ≡ distanceOf t u v = g .distance ∙ sym (distanceOf-other t u v f) in
+      let x : b .downstream ≡ downstreamOf t u v (distanceOf t u v) = go (ℕ-discrete (b .distance) (t .n)) ∙ ap (downstreamOf t u v) d in
       λ i. record { distance = d i; downstream = x i }
     where
-      go : Dec (b .distance ≡ t .n) → b .downstream ≡ nearest t u v (b .distance)
-      go (yes e) = g .none e ∙ sym (nearest-none t u v (b .distance) e)
+      go : Dec (b .distance ≡ t .n) → b .downstream ≡ downstreamOf t u v (b .distance)
+      go (yes e) = g .none e ∙ sym (downstreamOf-none t u v (b .distance) f e)
       go (no e) =
           let l : b .distance < t .n = omega (arith, g .distance, least-most t u v (t .n)) in
-          sym (nearest-is t u v (b .distance) (b .downstream) (g .distance) l (record { below = g .below l; linked = g .linked l; gives = g .gives l; lowest = λ w lw q i. g .lowest w lw q i l }))
+          sym (downstreamOf-is t u v (b .distance) (b .downstream) f (g .distance) l (record { below = g .below l; linked = g .linked l; gives = g .gives l; lowest = λ w lw q i. g .lowest w lw q i l }))
 
 pub best-route : {n : ℕ} {r s : List ℕ} {t : State} → Carries n r s t → (u v : ℕ) → u < n → v < n → u ≢ v → best n u v s ≡ found t u v
 unfolding best nearer

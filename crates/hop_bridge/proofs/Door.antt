@@ -10,7 +10,7 @@ use Rattle.hop_rule.specs.Sound.{Sound}
 use Rattle.hop_rule.specs.Calls.{restored}
 use Rattle.hop_laws.specs.Fine.{Fine}
 use Rattle.hop_laws.specs.Holds.{flatOf, deepOf}
-use Rattle.hop_laws.proofs.Rule.{route-distance-own, route-downstream-own}
+use Rattle.hop_laws.proofs.Rule.{distanceOf-own, sound-current, current-own}
 use Rattle.hop_laws.proofs.Stored.{held-stored}
 use Rattle.hop_laws.proofs.Read.{read-holds}
 use Rattle.hop_cells.specs.Cells.{get}
@@ -20,8 +20,8 @@ use Rattle.hop_bridge.specs.Carries.{Filled, Tidy, Orderly, Carries, Car
 sound-orderly : {t : State} → Sound t → Orderly (t .n) t
 sound-orderly {t} h = record {
   count = refl;
-  own-distance = λ u l. h .distances u u l l ∙ route-distance-own t u u refl;
-  own-downstream = λ u l. h .downstreams u u l l ∙ route-downstream-own t u u refl;
+  own-distance = λ u l. h .distances u u l l ∙ distanceOf-own t u u refl;
+  own-downstream = λ u l. current-own (sound-current h u u l l) refl;
   tidy = λ w u lw lu. go w u lw lu (ℕ-discrete (t .link u w) 1);
 }
   where

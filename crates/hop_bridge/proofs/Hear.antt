@@ -16,7 +16,7 @@ use Rattle.hop_rule.specs.Sound.{Sound}
 use Rattle.hop_laws.specs.Same.{Same}
 use Rattle.hop_laws.specs.Holds.{deepOf, blank}
 use Rattle.hop_laws.proofs.Tests.{Tells, decides, tells-eq, tells-and, choose-so, choose-else}
-use Rattle.hop_laws.proofs.Rule.{route-same, recompute-queue-other, hear-queue-at, deliver-head}
+use Rattle.hop_laws.proofs.Rule.{Alike, same-alike, distanceOf-most, distanceOf-alike, downstreamOf-alike, recompute-queue-other, hear-queue-at, deliver-head}
 use Rattle.hop_laws.proofs.Read.{destinationAt-getD, valueAt-getD}
 use Rattle.hop_rest.proofs.Kept.{waiting-linked, waiting-below}
 use Rattle.hop_cells.specs.Cells.{get3, put3}
@@ -80,13 +80,16 @@ module _ {n : ℕ} (w u : ℕ) (lw : w < n) (lu : u < n) (t : State) (q : List E
     n = refl;
     link = λ a b la lb. refl;
     distance = λ a c la lc. rw same;
-    downstream = λ a c la lc. rw same;
+    downstream = λ a c la lc. rw (same, downstreamOf-alike _ reads (distanceOf-most (rule.hear t w u e rest) u (e .destination)));
     view = λ a b c la lb lc. refl;
     queue = λ a b la lb. go a b (decides (tells-there w u a b));
   })
     where
-      same : rule.route (rule.hear t w u e q) u (e .destination) ≡ rule.route (rule.hear t w u e rest) u (e .destination)
-      same = route-same (rule.hear t w u e rest) (rule.hear t w u e q) u (e .destination) refl (λ y l. refl) (λ y l. refl)
+      reads : Alike (rule.hear t w u e rest) (rule.hear t w u e q) u (e .destination)
+      reads = same-alike _ _ u (e .destination) refl (λ y l. refl) (λ y l. refl)
+
+      same : rule.distanceOf (rule.hear t w u e q) u (e .destination) ≡ rule.distanceOf (rule.hear t w u e rest) u (e .destination)
+      same = distanceOf-alike reads
 
       go : (a b : ℕ) → Dec ((a ≡ w) × (b ≡ u)) → rule.recompute (rule.hear t w u e q) u (e .destination) .queue a b ≡ cond (eqb a w && eqb b u) q (rule.recompute (rule.hear t w u e rest) u (e .destination) .queue a b)
       go a b (yes p) = rw (p .0, p .1) (recompute-queue-other (rule.hear t w u e q) u (e .destination) w u (λ j. absurd (f j)) ∙ hear-queue-at t w u e q ∙ sym (choose-so (tells-there w u w u) _ _ (refl, refl)))

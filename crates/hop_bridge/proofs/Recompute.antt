@@ -9,12 +9,13 @@ use native.Mathlib.Omega.{arith}
 use lib.Dec.{eqb, ltb}
 use borrow.Author.Tests.{lt-ltb, ne-eqb}
 use Rattle.hop_rule.specs.declared.Table.the-variants.{Links, Distances}
-use Rattle.hop_rule.specs.State.{State, Entry, Route}
+use Rattle.hop_rule.specs.State.{State, Entry}
 use Rattle.hop_rule.specs.Rule as rule
 use Rattle.hop_laws.specs.Same.{Same}
 use Rattle.hop_laws.proofs.Tests.{Tells, decides, tells-eq, tells-lt, tells-and, choose-so, choose-else}
-use Rattle.hop_laws.proofs.Rule.{route-distance-own, route-downstream-own, recompute-queue-other}
+use Rattle.hop_laws.proofs.Rule.{distanceOf-own, downstreamOf-own, recompute-queue-other}
 use Rattle.hop_queues.specs.Queues as bytes
+use Rattle.hop_steps.specs.declared.Best.{Best}
 use Rattle.hop_steps.specs.Steps.{up, store, tellOne, tell, recompute}
 use Rattle.hop_bridge.specs.Carries.{Carries}
 use Rattle.hop_bridge.specs.Parts.{withRoute, withQueue, withSent}
@@ -84,8 +85,8 @@ module _ {n : ℕ} {r s : List ℕ} {t : State} (h : Carries n r s t) (u v d : �
 -- ---- recompute
 
 module _ {n : ℕ} {r s : List ℕ} {t : State} (h : Carries n r s t) (u v : ℕ) (lu : u < n) (lv : v < n) where
-  abbrev new : Route
-  new = rule.route t u v
+  abbrev new : Best
+  new = found t u v
 
   abbrev placed : State
   placed = withRoute t u v (new .distance) (new .downstream)
@@ -105,21 +106,21 @@ module _ {n : ℕ} {r s : List ℕ} {t : State} (h : Carries n r s t) (u v : ℕ
       here : (a c : ℕ) → Tells (eqb a u && eqb c v) ((a ≡ u) × (c ≡ v))
       here a c = tells-and (tells-eq a u) (tells-eq c v)
 
-  pub unchanged-carries : rule.route t u v .distance ≡ t .distance u v → rule.route t u v .downstream ≡ t .downstream u v → Carries n r s (rule.recompute t u v)
+  pub unchanged-carries : rule.distanceOf t u v ≡ t .distance u v → found t u v .downstream ≡ t .downstream u v → Carries n r s (rule.recompute t u v)
   unchanged-carries d x = carries-same h (rule.recompute t u v) (unchanged d x)
 
   -- as for a node itself.
   pub own-carries : u ≡ v → Carries n r s (rule.recompute t u v)
   own-carries e =
-      unchanged-carries (route-distance-own t u v e ∙ sym (h .orderly .own-distance u lu) ∙ ap (t .distance u) e)
-      (route-downstream-own t u v e ∙ sym (h .orderly .own-downstream u lu) ∙ ap (t .downstream u) e)
+      unchanged-carries (distanceOf-own t u v e ∙ sym (h .orderly .own-distance u lu) ∙ ap (t .distance u) e)
+      (downstreamOf-own t u v _ e ∙ sym (h .orderly .own-downstream u lu) ∙ ap (t .downstream u) e)
 
   -- The distance stays: nothing is sent.
   kept : new .distance ≡ t .distance u v → Same placed (rule.recompute t u v)
   unfolding rule.recompute withRoute
   kept e = same-queues placed _ _ (λ a b la lb. sym (recompute-queue-other t u v a b (λ i j. e)))
 
-  pub kept-carries : u ≢ v → rule.route t u v .distance ≡ t .distance u v → Carries n r (store n u v (found t u v) s) (rule.recompute t u v)
+  pub kept-carries : u ≢ v → rule.distanceOf t u v ≡ t .distance u v → Carries n r (store n u v (found t u v) s) (rule.recompute t u v)
   kept-carries f e = carries-same (store-carries h u v (found t u v) lu lv f) (rule.recompute t u v) (kept e)
 
   -- It changes: it is sent on each up link.
@@ -131,7 +132,7 @@ module _ {n : ℕ} {r s : List ℕ} {t : State} (h : Carries n r s t) (u v : ℕ
       and-true true = refl
       and-true false = refl
 
-  pub changed-carries : u ≢ v → rule.route t u v .distance ≢ t .distance u v → Carries n r (tell n u v (rule.route t u v .distance) (store n u v (found t u v) s)) (rule.recompute t u v)
+  pub changed-carries : u ≢ v → rule.distanceOf t u v ≢ t .distance u v → Carries n r (tell n u v (rule.distanceOf t u v) (store n u v (found t u v) s)) (rule.recompute t u v)
   unfolding withRoute
   changed-carries f e = carries-same (tell-carries (store-carries h u v (found t u v) lu lv f) u v (new .distance) lu lv) (rule.recompute t u v) (changed e)
 

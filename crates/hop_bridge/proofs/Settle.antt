@@ -11,9 +11,9 @@ use lib.Seq.{set-getD}
 use Rattle.hop_rule.specs.declared.Table.the-variants.{Distances, Downstreams}
 use Rattle.hop_rule.specs.State.{State, Entry}
 use Rattle.hop_rule.specs.Rule as rule
-use Rattle.hop_rule.specs.Sound.{Sound}
+use Rattle.hop_rule.specs.Sound.{Leads, Sound}
 use Rattle.hop_laws.proofs.Tests.{Tells, decides, tells-eq, tells-lt, tells-and, choose-so, choose-else}
-use Rattle.hop_laws.proofs.Rule.{route-distance-most}
+use Rattle.hop_laws.proofs.Rule.{distanceOf-most}
 use Rattle.hop_laws.proofs.Heard.{near-distance, near-downstream, same-distance, same-downstream}
 use Rattle.hop_cells.specs.Cells.{get, put, get2, put2}
 use Rattle.hop_steps.specs.Steps.{store, tell, recompute, settle}
@@ -39,19 +39,19 @@ module _ {n : ℕ} {r s : List ℕ} (t : State) (w u : ℕ) (head : Entry) (rest
   below l = omega (arith, count)
 
   -- What u had for v is what recompute found.
-  distance : t .distance u v ≡ rule.route t u v .distance
+  distance : t .distance u v ≡ rule.distanceOf t u v
   distance = o .distances u v (below lu) (below lv)
 
-  downstream : t .downstream u v ≡ rule.route t u v .downstream
-  downstream = o .downstreams u v (below lu) (below lv)
+  leads : Leads t u v
+  leads = o .downstreams u v (below lu) (below lv)
 
   module _ (apart : u ≢ head .destination) where
     -- The view is the nearest, and was not.
     nearer : near < t .distance u v → Carries n r (tell n u v near (store n u v (record { distance = near; downstream = w }) s)) (rule.recompute after u v)
     unfolding rule.hear
     nearer l =
-        let d : rule.route after u v .distance ≡ near = near-distance t w u head rest (below lw) linked apart (omega (arith, distance)) ∙ omega arith in
-        let x : rule.route after u v .downstream ≡ w = near-downstream t w u head rest (below lw) linked apart (omega (arith, distance)) (omega (arith, distance, route-distance-most t u v)) (λ e. absurd (omega (arith, distance))) in
+        let d : rule.distanceOf after u v ≡ near = near-distance t w u head rest (below lw) linked apart distance (omega arith) ∙ omega arith in
+        let x : found after u v .downstream ≡ w = near-downstream t w u head rest (below lw) linked apart distance leads (omega arith) (omega (arith, distance, distanceOf-most t u v)) (λ e. absurd (omega arith)) in
         let e : found after u v ≡ record { distance = near; downstream = w } = λ i. record { distance = d i; downstream = x i } in
         subst (λ b. Carries n r (tell n u v (b .distance) (store n u v b s)) (rule.recompute after u v)) e (changed-carries h u v lu lv apart (λ z. omega arith))
 
@@ -59,8 +59,8 @@ module _ {n : ℕ} {r s : List ℕ} (t : State) (w u : ℕ) (head : Entry) (rest
     alike : near ≡ t .distance u v → t .distance u v < n → w < t .downstream u v → Carries n r (put2 n Downstreams u v w s) (rule.recompute after u v)
     unfolding rule.hear store get put
     alike e b l =
-        let d : rule.route after u v .distance ≡ t .distance u v = near-distance t w u head rest (below lw) linked apart (omega (arith, distance)) ∙ omega arith in
-        let x : rule.route after u v .downstream ≡ w = near-downstream t w u head rest (below lw) linked apart (omega (arith, distance)) (omega (arith, count)) (λ i. omega (arith, downstream)) in
+        let d : rule.distanceOf after u v ≡ t .distance u v = near-distance t w u head rest (below lw) linked apart distance (omega arith) ∙ omega arith in
+        let x : found after u v .downstream ≡ w = near-downstream t w u head rest (below lw) linked apart distance leads (omega arith) (omega (arith, count)) (λ i. omega arith) in
         let was : t .distance u v ≡ get2 n Distances u v s = sym (h .filled .flats Distances tt u v lu lv) in
         let i : found after u v ≡ record { distance = get2 n Distances u v s; downstream = w } = λ i. record { distance = (d ∙ was) i; downstream = x i } in
         subst (λ y. Carries n r (put2 n Downstreams u v w y) (rule.recompute after u v)) (set-getD s _ 0)
@@ -70,10 +70,10 @@ module _ {n : ℕ} {r s : List ℕ} (t : State) (w u : ℕ) (head : Entry) (rest
     idle : t .distance u v ≤ near → (t .downstream u v ≡ w → near ≤ t .distance u v) → (near ≡ t .distance u v → t .distance u v < n → t .downstream u v ≤ w) → Carries n r s (rule.recompute after u v)
     unfolding rule.hear
     idle far kept low =
-        let f : rule.route t u v .distance ≤ suc (head .value) = omega (arith, distance) in
-        let k : rule.route t u v .downstream ≡ w → suc (head .value) ≤ rule.route t u v .distance = λ e. omega (arith, distance, kept (downstream ∙ e)) in
-        unchanged-carries h u v lu lv (same-distance t w u head rest (below lw) linked apart f k ∙ sym distance)
-        (same-downstream t w u head rest (below lw) linked apart f k (λ e b. omega (arith, downstream, low (omega (arith, distance)) (omega (arith, distance, count)))) ∙ sym downstream)
+        let f : t .distance u v ≤ suc (head .value) = omega arith in
+        let k : t .downstream u v ≡ w → suc (head .value) ≤ t .distance u v = λ e. omega (arith, kept e) in
+        unchanged-carries h u v lu lv (same-distance t w u head rest (below lw) linked apart distance leads f k)
+        (same-downstream t w u head rest (below lw) linked apart distance leads f k (λ e b. low (omega arith) (omega (arith, count))))
 
   pub settle-carries : Carries n r (settle n u (head .destination) w (head .value) s) (rule.recompute (rule.hear t w u head rest) u (head .destination))
   unfolding settle rule.hear

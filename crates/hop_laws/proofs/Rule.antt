@@ -1,5 +1,5 @@
 -- Laws of the rule's parts: what recompute finds, what it reads, and which cells each move changes. Distances come first and know nothing of downstreams. Assumes nothing.
-use mathlib.Core.Path.{_≡_, refl, sym, ap, _∙_}
+use mathlib.Core.Path.{_≡_, refl, sym, ap, subst, _∙_}
 use mathlib.Core.Logic.{_⊎_, inl, inr, _≢_}
 use mathlib.Core.Bool.{Bool, not, cond, _&&_}
 use mathlib.Core.List.{List, [], _∷_}
@@ -9,8 +9,9 @@ use native.Mathlib.Decide.{ℕ-discrete, decLt}
 use native.Mathlib.Omega.{arith}
 use lib.Dec.{eqb}
 use Rattle.hop_rule.specs.Words.{listed, first}
-use Rattle.hop_rule.specs.State.{State, Entry, Route}
-use Rattle.hop_rule.specs.Rule.{up, least, nearest, route, send, recompute, hear, deliver, between, linkUp, cut}
+use Rattle.hop_rule.specs.State.{State, Entry}
+use Rattle.hop_rule.specs.Rule.{up, least, distanceOf, gives, downstreamOf, send, recompute, hear, deliver, between, linkUp, cut}
+use Rattle.hop_rule.specs.Sound.{Leads, Sound}
 use Rattle.hop_laws.proofs.Tests.{Tells, tells-eq, tells-and, tells-or, tells-not, tells-same, tells-as, tells-not-so, choose-so, choose-else}
 use Rattle.hop_laws.proofs.Words.{first-passes, first-before, first-same}
 
@@ -77,10 +78,23 @@ module _ (s : State) (u v : ℕ) where
       go (inr (w, lw, q, e)) = rw e (h w lw q)
 
 -- t has each view below n that s has over an up link of u.
-abbrev pub Keeps : State → State → ℕ → ℕ → Type 0
+abbrev Keeps : State → State → ℕ → ℕ → Type 0
 Keeps s t u v = (w : ℕ) → w < s .n → s .link u w ≡ 1 → s .view u w v < s .n → (t .link u w ≡ 1) × (t .view u w v ≡ s .view u w v)
 
--- It reads nothing else.
+-- All that recompute of v at u reads is the same: n, and the views below n over up links,
+pub record Alike (s t : State) (u v : ℕ) : Type 0 where
+  pub n : t .n ≡ s .n
+  pub there : Keeps s t u v
+  pub back : Keeps t s u v
+
+-- as it is where links and views are the same.
+pub same-alike : (s t : State) (u v : ℕ) → t .n ≡ s .n → ((w : ℕ) → w < s .n → t .link u w ≡ s .link u w) → ((w : ℕ) → w < s .n → t .view u w v ≡ s .view u w v) → Alike s t u v
+same-alike s t u v e f g = record {
+  n = e;
+  there = λ w l q b. (f w l ∙ q, g w l);
+  back = λ w l q b. let lw : w < s .n = omega arith in (sym (f w lw) ∙ q, sym (g w lw));
+}
+
 least-keeps : (s t : State) (u v : ℕ) → t .n ≡ s .n → Keeps s t u v → least t u v (s .n) ≤ least s u v (s .n)
 least-keeps s t u v e h = least-above s u v (s .n) _ (omega (arith, least-most t u v (s .n))) (λ w l q. go w l q (decLt (s .view u w v) (s .n)))
   where
@@ -88,26 +102,28 @@ least-keeps s t u v e h = least-above s u v (s .n) _ (omega (arith, least-most t
     go w l q (yes b) = omega (arith, least-under t u v (s .n) w l (h w l q b .0), h w l q b .1)
     go w l q (no b) = omega (arith, least-most t u v (s .n))
 
-least-alike : (s t : State) (u v : ℕ) → t .n ≡ s .n → Keeps s t u v → Keeps t s u v → least t u v (t .n) ≡ least s u v (s .n)
-least-alike s t u v e h k =
-    let to : least t u v (t .n) ≡ least t u v (s .n) = ap (least t u v) e in
-    let back : least s u v (t .n) ≡ least s u v (s .n) = ap (least s u v) e in
-    omega (arith, least-keeps s t u v e h, least-keeps t s u v (sym e) k)
+pub distanceOf-own : (s : State) (u v : ℕ) → u ≡ v → distanceOf s u v ≡ 0
+unfolding distanceOf
+distanceOf-own s u v e = choose-so (tells-eq u v) _ _ e
 
-pub route-distance-own : (s : State) (u v : ℕ) → u ≡ v → route s u v .distance ≡ 0
-unfolding route
-route-distance-own s u v e = ap (λ (r : Route). r .distance) (choose-so (tells-eq u v) _ _ e)
+pub distanceOf-other : (s : State) (u v : ℕ) → u ≢ v → distanceOf s u v ≡ least s u v (s .n)
+unfolding distanceOf
+distanceOf-other s u v f = choose-else (tells-eq u v) _ _ f
 
-pub route-distance-other : (s : State) (u v : ℕ) → u ≢ v → route s u v .distance ≡ least s u v (s .n)
-unfolding route
-route-distance-other s u v f = ap (λ (r : Route). r .distance) (choose-else (tells-eq u v) _ _ f)
-
-pub route-distance-most : (s : State) (u v : ℕ) → route s u v .distance ≤ s .n
-route-distance-most s u v = go (ℕ-discrete u v)
+pub distanceOf-most : (s : State) (u v : ℕ) → distanceOf s u v ≤ s .n
+distanceOf-most s u v = go (ℕ-discrete u v)
   where
-    go : Dec (u ≡ v) → route s u v .distance ≤ s .n
-    go (yes e) = omega (arith, route-distance-own s u v e)
-    go (no f) = omega (arith, route-distance-other s u v f, least-most s u v (s .n))
+    go : Dec (u ≡ v) → distanceOf s u v ≤ s .n
+    go (yes e) = omega (arith, distanceOf-own s u v e)
+    go (no f) = omega (arith, distanceOf-other s u v f, least-most s u v (s .n))
+
+pub distanceOf-alike : {s t : State} {u v : ℕ} → Alike s t u v → distanceOf t u v ≡ distanceOf s u v
+unfolding distanceOf
+distanceOf-alike {s} {t} {u} {v} a =
+    let to : least t u v (t .n) ≡ least t u v (s .n) = ap (least t u v) (a .n) in
+    let back : least s u v (t .n) ≡ least s u v (s .n) = ap (least s u v) (a .n) in
+    let d : least t u v (t .n) ≡ least s u v (s .n) = omega (arith, least-keeps s t u v (a .n) (a .there), least-keeps t s u v (sym (a .n)) (a .back)) in
+    rw d
 
 -- ---- the downstream
 
@@ -118,72 +134,85 @@ pub record Gives (s : State) (u v d x : ℕ) : Type 0 where
   pub gives : suc (s .view u x v) ≡ d
   pub lowest : (w : ℕ) → w < s .n → s .link u w ≡ 1 → suc (s .view u w v) ≡ d → x ≤ w
 
-tells-offer : (s : State) (u v d w : ℕ) → Tells (up s u w && eqb (suc (s .view u w v)) d) ((s .link u w ≡ 1) × (suc (s .view u w v) ≡ d))
+tells-offer : (s : State) (u v d w : ℕ) → Tells (gives s u v d w) ((s .link u w ≡ 1) × (suc (s .view u w v) ≡ d))
 tells-offer s u v d w = tells-and (tells-eq (s .link u w) 1) (tells-eq (suc (s .view u w v)) d)
 
-pub nearest-none : (s : State) (u v d : ℕ) → d ≡ s .n → nearest s u v d ≡ 255
-unfolding nearest
-nearest-none s u v d e = choose-so (tells-eq d (s .n)) _ _ e
+pub downstreamOf-own : (s : State) (u v d : ℕ) → u ≡ v → downstreamOf s u v d ≡ u
+unfolding downstreamOf
+downstreamOf-own s u v d e = choose-so (tells-eq u v) _ _ e
 
-pub nearest-gives : (s : State) (u v d : ℕ) → d ≡ least s u v (s .n) → d < s .n → Gives s u v d (nearest s u v d)
-unfolding nearest
-nearest-gives s u v d e l = rw (choose-else (tells-eq d (s .n)) 255 x (λ i. omega arith)) (found (least-attained s u v (s .n)))
+pub downstreamOf-none : (s : State) (u v d : ℕ) → u ≢ v → d ≡ s .n → downstreamOf s u v d ≡ 255
+unfolding downstreamOf
+downstreamOf-none s u v d f e = choose-else (tells-eq u v) _ _ f ∙ choose-so (tells-eq d (s .n)) _ _ e
+
+pub downstreamOf-gives : (s : State) (u v d : ℕ) → u ≢ v → d ≡ least s u v (s .n) → d < s .n → Gives s u v d (downstreamOf s u v d)
+unfolding downstreamOf
+downstreamOf-gives s u v d f e l =
+    subst (Gives s u v d) (sym (choose-else (tells-eq u v) _ _ f ∙ choose-else (tells-eq d (s .n)) 255 x (λ i. omega arith))) (found (least-attained s u v (s .n)))
   where
-    p : ℕ → Bool
-    p w = up s u w && eqb (suc (s .view u w v)) d
-
     x : ℕ
-    x = first (s .n) p
+    x = first (s .n) (gives s u v d)
 
     not-past : (w : ℕ) → (s .link u w ≡ 1) × (suc (s .view u w v) ≡ d) → Dec (w < x) → x ≤ w
-    not-past w o (yes b) = absurd (tells-not-so (tells-offer s u v d w) (first-before (s .n) p w b) o)
+    not-past w o (yes b) = absurd (tells-not-so (tells-offer s u v d w) (first-before (s .n) (gives s u v d) w b) o)
     not-past w o (no b) = omega arith
 
     found : Attained s u v (s .n) (least s u v (s .n)) → Gives s u v d x
     found (inl i) = absurd (omega arith)
     found (inr (w, lw, q, i)) =
         let b : x < s .n = omega (arith, not-past w (q, sym i ∙ sym e) (decLt w x)) in
-        let o = tells-offer s u v d x .shows (first-passes (s .n) p b) in
+        let o = tells-offer s u v d x .shows (first-passes (s .n) (gives s u v d) b) in
         record { below = b; linked = o .0; gives = o .1; lowest = λ y ly qy gy. not-past y (qy, gy) (decLt y x) }
 
 -- There is one such neighbour only.
-pub nearest-is : (s : State) (u v d x : ℕ) → d ≡ least s u v (s .n) → d < s .n → Gives s u v d x → nearest s u v d ≡ x
-nearest-is s u v d x e l g =
-    let h = nearest-gives s u v d e l in
-    omega (arith, h .lowest x (g .below) (g .linked) (g .gives), g .lowest (nearest s u v d) (h .below) (h .linked) (h .gives))
+pub downstreamOf-is : (s : State) (u v d x : ℕ) → u ≢ v → d ≡ least s u v (s .n) → d < s .n → Gives s u v d x → downstreamOf s u v d ≡ x
+downstreamOf-is s u v d x f e l g =
+    let h = downstreamOf-gives s u v d f e l in
+    omega (arith, h .lowest x (g .below) (g .linked) (g .gives), g .lowest (downstreamOf s u v d) (h .below) (h .linked) (h .gives))
 
-nearest-alike : (s t : State) (u v d : ℕ) → d ≤ s .n → t .n ≡ s .n → Keeps s t u v → Keeps t s u v → nearest t u v d ≡ nearest s u v d
-unfolding nearest
-nearest-alike s t u v d l e h k = go (t .n) e
+pub downstreamOf-alike : {s t : State} {u v : ℕ} (d : ℕ) → Alike s t u v → d ≤ s .n → downstreamOf t u v d ≡ downstreamOf s u v d
+unfolding downstreamOf
+downstreamOf-alike {s} {t} {u} {v} d a l = go (t .n) (a .n)
   where
-    there : (a b : State) → d ≤ a .n → a .n ≡ s .n → Keeps a b u v → (w : ℕ) → w < a .n → (a .link u w ≡ 1) × (suc (a .view u w v) ≡ d) → (b .link u w ≡ 1) × (suc (b .view u w v) ≡ d)
-    there a b la ea h w lw p = let r = h w lw (p .0) (omega arith) in (r .0, ap suc (r .1) ∙ p .1)
+    there : (a b : State) → d ≤ a .n → Keeps a b u v → (w : ℕ) → w < a .n → (a .link u w ≡ 1) × (suc (a .view u w v) ≡ d) → (b .link u w ≡ 1) × (suc (b .view u w v) ≡ d)
+    there a b la h w lw p = let r = h w lw (p .0) (omega arith) in (r .0, ap suc (r .1) ∙ p .1)
 
-    same : (w : ℕ) → w < s .n → (up t u w && eqb (suc (t .view u w v)) d) ≡ (up s u w && eqb (suc (s .view u w v)) d)
-    same w lw = tells-same (tells-offer t u v d w) (tells-as (λ p. there s t l refl h w lw p) (λ p. there t s (omega arith) e k w (omega arith) p) (tells-offer s u v d w))
+    same : (w : ℕ) → w < s .n → gives t u v d w ≡ gives s u v d w
+    same w lw =
+        let lt : d ≤ t .n = omega (arith, a .n) in
+        let lwt : w < t .n = omega (arith, a .n) in
+        tells-same (tells-offer t u v d w) (tells-as (there s t l (a .there) w lw) (there t s lt (a .back) w lwt) (tells-offer s u v d w))
 
-    go : (m : ℕ) → m ≡ s .n → cond (eqb d m) 255 (first m (λ w. up t u w && eqb (suc (t .view u w v)) d)) ≡ cond (eqb d (s .n)) 255 (first (s .n) (λ w. up s u w && eqb (suc (s .view u w v)) d))
+    go : (m : ℕ) → m ≡ s .n → cond (eqb u v) u (cond (eqb d m) 255 (first m (gives t u v d))) ≡ cond (eqb u v) u (cond (eqb d (s .n)) 255 (first (s .n) (gives s u v d)))
     go m i = rw (i, first-same (s .n) _ _ same)
 
-pub route-downstream-own : (s : State) (u v : ℕ) → u ≡ v → route s u v .downstream ≡ u
-unfolding route
-route-downstream-own s u v e = ap (λ (r : Route). r .downstream) (choose-so (tells-eq u v) _ _ e)
+-- ---- both
 
-pub route-downstream-other : (s : State) (u v : ℕ) → u ≢ v → route s u v .downstream ≡ nearest s u v (route s u v .distance)
-unfolding route
-route-downstream-other s u v f = ap (λ (r : Route). r .downstream) (choose-else (tells-eq u v) _ _ f) ∙ ap (nearest s u v) (sym (route-distance-other s u v f))
+-- What u holds for v is what recompute gives.
+pub record Current (s : State) (u v : ℕ) : Type 0 where
+  pub distance : s .distance u v ≡ distanceOf s u v
+  pub downstream : Leads s u v
 
--- Recompute finds the same where n and the views below n over up links are the same,
-pub route-alike : (s t : State) (u v : ℕ) → t .n ≡ s .n → Keeps s t u v → Keeps t s u v → route t u v ≡ route s u v
-unfolding route
-route-alike s t u v e h k =
-    let d : least t u v (t .n) ≡ least s u v (s .n) = least-alike s t u v e h k in
-    let x = nearest-alike s t u v (least s u v (s .n)) (least-most s u v (s .n)) e h k in
-    rw (d, x)
+pub sound-current : {s : State} → Sound s → (u v : ℕ) → u < s .n → v < s .n → Current s u v
+sound-current o u v lu lv = record { distance = o .distances u v lu lv; downstream = o .downstreams u v lu lv }
 
--- as they are where links and views are the same.
-pub route-same : (s t : State) (u v : ℕ) → t .n ≡ s .n → ((w : ℕ) → w < s .n → t .link u w ≡ s .link u w) → ((w : ℕ) → w < s .n → t .view u w v ≡ s .view u w v) → route t u v ≡ route s u v
-route-same s t u v e f g = route-alike s t u v e (λ w l q b. (f w l ∙ q, g w l)) (λ w l q b. let lw : w < s .n = omega arith in (sym (f w lw) ∙ q, sym (g w lw)))
+module _ {s : State} {u v : ℕ} (c : Current s u v) where
+  pub current-own : u ≡ v → s .downstream u v ≡ u
+  current-own e = c .downstream ∙ downstreamOf-own s u v _ e
+
+  pub current-none : u ≢ v → s .distance u v ≡ s .n → s .downstream u v ≡ 255
+  current-none f e = c .downstream ∙ downstreamOf-none s u v _ f e
+
+  pub current-gives : u ≢ v → s .distance u v < s .n → Gives s u v (s .distance u v) (s .downstream u v)
+  current-gives f l = subst (Gives s u v (s .distance u v)) (sym (c .downstream)) (downstreamOf-gives s u v _ f (c .distance ∙ distanceOf-other s u v f) l)
+
+pub current-alike : {s t : State} {u v : ℕ} → Alike s t u v → t .distance u v ≡ s .distance u v → t .downstream u v ≡ s .downstream u v → Current s u v → Current t u v
+current-alike {s} {t} {u} {v} a i j c = record {
+  distance = i ∙ c .distance ∙ sym (distanceOf-alike a);
+  downstream =
+      j ∙ c .downstream ∙ sym (downstreamOf-alike (s .distance u v) a (omega (arith, c .distance, distanceOf-most s u v)))
+      ∙ ap (downstreamOf t u v) (sym i);
+}
 
 -- ---- recompute of v at u
 
@@ -191,7 +220,7 @@ module _ (s : State) (u v : ℕ) where
   tells-cell : (a c : ℕ) → Tells (eqb a u && eqb c v) ((a ≡ u) × (c ≡ v))
   tells-cell a c = tells-and (tells-eq a u) (tells-eq c v)
 
-  pub recompute-distance-at : recompute s u v .distance u v ≡ route s u v .distance
+  pub recompute-distance-at : recompute s u v .distance u v ≡ distanceOf s u v
   unfolding recompute
   recompute-distance-at = choose-so (tells-cell u v) _ _ (refl, refl)
 
@@ -199,7 +228,7 @@ module _ (s : State) (u v : ℕ) where
   unfolding recompute
   recompute-distance-other a c f = choose-else (tells-cell a c) _ _ (λ p. f (p .0) (p .1))
 
-  pub recompute-downstream-at : recompute s u v .downstream u v ≡ route s u v .downstream
+  pub recompute-downstream-at : recompute s u v .downstream u v ≡ downstreamOf s u v (distanceOf s u v)
   unfolding recompute
   recompute-downstream-at = choose-so (tells-cell u v) _ _ (refl, refl)
 
@@ -207,15 +236,25 @@ module _ (s : State) (u v : ℕ) where
   unfolding recompute
   recompute-downstream-other a c f = choose-else (tells-cell a c) _ _ (λ p. f (p .0) (p .1))
 
-  tells-sent : (a b : ℕ) → Tells (eqb a u && (up s u b && not (eqb (route s u v .distance) (s .distance u v)))) ((a ≡ u) × ((s .link u b ≡ 1) × (route s u v .distance ≢ s .distance u v)))
-  tells-sent a b = tells-and (tells-eq a u) (tells-and (tells-eq (s .link u b) 1) (tells-not (tells-eq (route s u v .distance) (s .distance u v))))
+  -- The cell is current then.
+  pub recompute-current : Current (recompute s u v) u v
+  unfolding recompute
+  recompute-current =
+      let a = same-alike s (recompute s u v) u v refl (λ w l. refl) (λ w l. refl) in
+      record {
+        distance = recompute-distance-at ∙ sym (distanceOf-alike a);
+        downstream = recompute-downstream-at ∙ sym (downstreamOf-alike (distanceOf s u v) a (distanceOf-most s u v)) ∙ ap (downstreamOf (recompute s u v) u v) (sym recompute-distance-at);
+      }
 
-  pub recompute-queue-sent : (b : ℕ) → s .link u b ≡ 1 → route s u v .distance ≢ s .distance u v
-      → recompute s u v .queue u b ≡ send (record { destination = v; value = route s u v .distance }) (s .queue u b)
+  tells-sent : (a b : ℕ) → Tells (eqb a u && (up s u b && not (eqb (distanceOf s u v) (s .distance u v)))) ((a ≡ u) × ((s .link u b ≡ 1) × (distanceOf s u v ≢ s .distance u v)))
+  tells-sent a b = tells-and (tells-eq a u) (tells-and (tells-eq (s .link u b) 1) (tells-not (tells-eq (distanceOf s u v) (s .distance u v))))
+
+  pub recompute-queue-sent : (b : ℕ) → s .link u b ≡ 1 → distanceOf s u v ≢ s .distance u v
+      → recompute s u v .queue u b ≡ send (record { destination = v; value = distanceOf s u v }) (s .queue u b)
   unfolding recompute
   recompute-queue-sent b q f = choose-so (tells-sent u b) _ _ (refl, (q, f))
 
-  pub recompute-queue-other : (a b : ℕ) → (a ≡ u → s .link u b ≡ 1 → route s u v .distance ≡ s .distance u v) → recompute s u v .queue a b ≡ s .queue a b
+  pub recompute-queue-other : (a b : ℕ) → (a ≡ u → s .link u b ≡ 1 → distanceOf s u v ≡ s .distance u v) → recompute s u v .queue a b ≡ s .queue a b
   unfolding recompute
   recompute-queue-other a b f = choose-else (tells-sent a b) _ _ (λ p. p .1 .1 (f (p .0) (p .1 .0)))
 

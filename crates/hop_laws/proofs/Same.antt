@@ -6,11 +6,10 @@ use lib.ListN.{length}
 use Rattle.hop_rule.specs.declared.Table.{Table}
 use Rattle.hop_rule.specs.declared.Table.the-variants.{Links, Distances, Downstreams, Views, Lengths, Destinations, Values}
 use Rattle.hop_rule.specs.State.{State}
-use Rattle.hop_rule.specs.Rule.{route}
 use Rattle.hop_rule.specs.Stored.{block, stored}
 use Rattle.hop_rule.specs.Sound.{Sound}
 use Rattle.hop_laws.specs.Same.{Same}
-use Rattle.hop_laws.proofs.Rule.{route-same}
+use Rattle.hop_laws.proofs.Rule.{Alike, same-alike, Current, current-alike, sound-current}
 use Rattle.hop_laws.proofs.Queues.{each-as, each-both}
 use Rattle.hop_laws.proofs.Blocks.{grid-same, cube-same}
 
@@ -36,16 +35,16 @@ same-sym e = record {
 
 module _ {s t : State} (e : Same s t) where
   -- Recompute reads only a node's own links, and its views of the one destination.
-  routes-same : (u v : ℕ) → u < s .n → v < s .n → route s u v ≡ route t u v
-  routes-same u v lu lv = sym (route-same s t u v (sym (e .n)) (λ w l. sym (e .link u w lu l)) (λ w l. sym (e .view u w v lu l lv)))
+  pub same-reads : (u v : ℕ) → u < s .n → v < s .n → Alike s t u v
+  same-reads u v lu lv = same-alike s t u v (sym (e .n)) (λ w l. sym (e .link u w lu l)) (λ w l. sym (e .view u w v lu l lv))
 
   pub sound-same : Sound s → Sound t
   sound-same h = record {
     bits = λ u w lu lw. rw (f .link u w lu lw) (h .bits u w (in-s lu) (in-s lw));
     symmetric = λ u w lu lw. f .link u w lu lw ∙ h .symmetric u w (in-s lu) (in-s lw) ∙ sym (f .link w u lw lu);
     diagonal = λ u lu. f .link u u lu lu ∙ h .diagonal u (in-s lu);
-    distances = λ u v lu lv. f .distance u v lu lv ∙ h .distances u v (in-s lu) (in-s lv) ∙ ap (λ r. r .distance) (routes-same u v (in-s lu) (in-s lv));
-    downstreams = λ u v lu lv. f .downstream u v lu lv ∙ h .downstreams u v (in-s lu) (in-s lv) ∙ ap (λ r. r .downstream) (routes-same u v (in-s lu) (in-s lv));
+    distances = λ u v lu lv. current u v lu lv .distance;
+    downstreams = λ u v lu lv. current u v lu lv .downstream;
     views = λ u w v lu lw lv. omega (arith, f .view u w v lu lw lv, h .views u w v (in-s lu) (in-s lw) (in-s lv));
     down-views = λ u w v lu lw lv down. f .view u w v lu lw lv ∙ h .down-views u w v (in-s lu) (in-s lw) (in-s lv) (λ k. down (f .link u w lu lw ∙ k)) ∙ e .n;
     down-queues = λ u w lu lw down. f .queue w u lw lu ∙ h .down-queues u w (in-s lu) (in-s lw) (λ k. down (f .link u w lu lw ∙ k));
@@ -68,6 +67,9 @@ module _ {s t : State} (e : Same s t) where
 
       in-s : {u : ℕ} → u < t .n → u < s .n
       in-s l = omega arith
+
+      current : (u v : ℕ) → u < t .n → v < t .n → Current t u v
+      current u v lu lv = current-alike (same-reads u v (in-s lu) (in-s lv)) (f .distance u v lu lv) (f .downstream u v lu lv) (sound-current h u v (in-s lu) (in-s lv))
 
       up-s : {u w : ℕ} → u < t .n → w < t .n → t .link u w ≡ 1 → s .link u w ≡ 1
       up-s {u} {w} lu lw up = e .link u w (in-s lu) (in-s lw) ∙ up

@@ -9,9 +9,9 @@ use lib.ListN.{length}
 use Rattle.hop_rule.specs.declared.Table.{Table}
 use Rattle.hop_rule.specs.declared.Table.the-variants.{Lengths, Destinations, Values}
 use Rattle.hop_rule.specs.State.{State, Entry}
-use Rattle.hop_rule.specs.Rule.{up, route}
+use Rattle.hop_rule.specs.Rule.{up, distanceOf, downstreamOf}
 use Rattle.hop_rule.specs.Stored.{flat, deep, readAs}
-use Rattle.hop_rule.specs.Sound.{Waits, Differ, Each, Sound, SoundAs, waits, differ, each, pairs, triples, isSound, isSoundAs}
+use Rattle.hop_rule.specs.Sound.{Waits, Differ, Each, Leads, Sound, SoundAs, waits, differ, each, leads, pairs, triples, isSound, isSoundAs}
 use Rattle.hop_laws.proofs.Tests.{Tells, tells-true, tells-never, tells-as, tells-eq, tells-le, tells-lt, tells-not, tells-and, tells-or, tells-gives, tells-else, tells-every}
 
 -- ---- queues
@@ -59,6 +59,9 @@ tells-unless {b = false} t r k = tells-as (λ f p. absurd (tells-not t .shows re
 pub tells-up : (s : State) (u w : ℕ) → Tells (up s u w) (s .link u w ≡ 1)
 tells-up s u w = tells-eq (s .link u w) 1
 
+pub tells-leads : (s : State) (u v : ℕ) → Tells (leads s u v) (Leads s u v)
+tells-leads s u v = tells-eq (s .downstream u v) (downstreamOf s u v (s .distance u v))
+
 infixl 35 _also_
 abbrev _also_ : {b c : Bool} {P Q : Type 0} → Tells b P → Tells c Q → Tells (b && c) (P × Q)
 t also r = tells-and t r
@@ -98,8 +101,8 @@ sound-tells s = tells-as
     (tells-pairs (s .n) (λ u w. tells-le (s .link u w) 1)
     also tells-pairs (s .n) (λ u w. tells-eq (s .link u w) (s .link w u))
     also tells-every (s .n) (λ u l. tells-eq (s .link u u) 0)
-    also tells-pairs (s .n) (λ u v. tells-eq (s .distance u v) (route s u v .distance))
-    also tells-pairs (s .n) (λ u v. tells-eq (s .downstream u v) (route s u v .downstream))
+    also tells-pairs (s .n) (λ u v. tells-eq (s .distance u v) (distanceOf s u v))
+    also tells-pairs (s .n) (tells-leads s)
     also tells-triples (s .n) (λ u w v. tells-le (s .view u w v) (s .n))
     also tells-triples (s .n) (λ u w v. tells-else (tells-up s u w) (tells-eq (s .view u w v) (s .n)))
     also tells-pairs (s .n) (λ u w. tells-else (tells-up s u w) (tells-empty (s .queue w u)))

@@ -15,12 +15,11 @@ use Rattle.hop_rule.specs.declared.Reading.{Reading}
 use Rattle.hop_rule.specs.declared.Reading.the-variants.{Found, End, Refused}
 use Rattle.hop_rule.specs.Words.{joined}
 use Rattle.hop_rule.specs.State.{State}
-use Rattle.hop_rule.specs.Rule.{route}
 use Rattle.hop_rule.specs.Stored.{readAs, read}
 use Rattle.hop_rule.specs.Sound.{Sound}
 use Rattle.hop_rule.specs.Records.{wordAt, kindOf, known, lengthOf, readEvent}
 use Rattle.hop_rule.specs.Calls.{Refusal, Outcome, make, check, totalQueued, judge, refusals, answerAt, done, outcome}
-use Rattle.hop_laws.proofs.Rule.{route-distance-most, route-distance-other, route-downstream-own, route-downstream-other, nearest-none, nearest-gives}
+use Rattle.hop_laws.proofs.Rule.{distanceOf-most, Current, sound-current, current-own, current-none, current-gives}
 use Rattle.hop_laws.proofs.Ceiling.{total-fits}
 use Rattle.hop_laws.proofs.Calls.{outcome-done, outcome-refused, state-fine}
 use Rattle.hop_laws.proofs.Records.{found-place}
@@ -130,16 +129,16 @@ joined-short (suc k) m f h = omega (arith, length-append (joined k f) (f k), joi
 downstream-small : (s : State) (u v : ℕ) → Sound s → s .n ≤ 40 → u < s .n → v < s .n → (s .downstream u v < 100) ⊎ (s .downstream u v ≡ 255)
 downstream-small s u v sound most l m = go (ℕ-discrete u v)
   where
-    there : s .downstream u v ≡ route s u v .downstream
-    there = sound .downstreams u v l m
+    c : Current s u v
+    c = sound-current sound u v l m
 
     go : Dec (u ≡ v) → (s .downstream u v < 100) ⊎ (s .downstream u v ≡ 255)
-    go (yes e) = inl (omega (arith, there, route-downstream-own s u v e))
-    go (no f) = far (decLt (route s u v .distance) (s .n))
+    go (yes e) = inl (omega (arith, current-own c e))
+    go (no f) = far (decLt (s .distance u v) (s .n))
       where
-        far : Dec (route s u v .distance < s .n) → (s .downstream u v < 100) ⊎ (s .downstream u v ≡ 255)
-        far (yes h) = inl (omega (arith, there, route-downstream-other s u v f, nearest-gives s u v (route s u v .distance) (route-distance-other s u v f) h .below))
-        far (no h) = inr (there ∙ route-downstream-other s u v f ∙ nearest-none s u v (route s u v .distance) (omega (arith, route-distance-most s u v)))
+        far : Dec (s .distance u v < s .n) → (s .downstream u v < 100) ⊎ (s .downstream u v ≡ 255)
+        far (yes h) = inl (omega (arith, current-gives c f h .below))
+        far (no h) = inr (current-none c f (omega (arith, c .distance, distanceOf-most s u v)))
 
 lines-short : (s : State) → Sound s → s .n ≤ 40 → length (routeLines s) ≤ 22400
 unfolding routeLines routesFrom routeAt
@@ -147,7 +146,7 @@ lines-short s sound most = omega (arith, joined-short (s .n) 560 (routesFrom s) 
   where
     line : (u v : ℕ) → u < s .n → v < s .n → length (routeAt s u v) ≤ 14
     line u v l m =
-        let far : s .distance u v ≤ s .n = omega (arith, sound .distances u v l m, route-distance-most s u v) in
+        let far : s .distance u v ≤ s .n = omega (arith, sound .distances u v l m, distanceOf-most s u v) in
         route-short u v _ _ (omega arith) (omega arith) (omega arith) (downstream-small s u v sound most l m)
 
 routes-short : (s : List ℕ) → length (routes s) ≤ 22400

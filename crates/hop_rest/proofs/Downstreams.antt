@@ -4,8 +4,7 @@ use mathlib.Core.Logic.{_≢_}
 use Prim.Native.Nat.{ℕ, suc, _<_}
 use native.Mathlib.Omega.{arith}
 use Rattle.hop_rule.specs.State.{State}
-use Rattle.hop_rule.specs.Rule.{nearest}
-use Rattle.hop_laws.proofs.Rule.{route-distance-other, route-downstream-own, route-downstream-other, nearest-none, nearest-gives, Gives}
+use Rattle.hop_laws.proofs.Rule.{Gives, Current, sound-current, current-own, current-none, current-gives}
 use Rattle.hop_rest.specs.Walks.{Walk, here, HopCount, joined, apart, Nearer}
 use Rattle.hop_rest.specs.Rest.{AtRest, Settled}
 use Rattle.hop_rest.proofs.Walks.{hop-count-same}
@@ -13,26 +12,25 @@ use Rattle.hop_rest.proofs.Right.{Over, distance-own}
 use Rattle.hop_rest.proofs.Rest.{rest-view, rest-hop-count}
 
 module _ (g s : State) (o : Over g s) (rest : AtRest s) where
-  downstream-nearest : (u v : ℕ) → u < g .n → v < g .n → u ≢ v → s .downstream u v ≡ nearest s u v (s .distance u v)
-  downstream-nearest u v lu lv f =
-      o .sound .downstreams u v (omega arith) (omega arith) ∙ route-downstream-other s u v f ∙ ap (nearest s u v) (sym (o .sound .distances u v (omega arith) (omega arith)))
+  current : (u v : ℕ) → u < g .n → v < g .n → Current s u v
+  current u v lu lv = sound-current (o .sound) u v (omega arith) (omega arith)
 
   downstream-none : (u v : ℕ) → u < g .n → v < g .n → ((d : ℕ) → Walk g u v d → ⊥) → s .downstream u v ≡ 255
   downstream-none u v lu lv f = go (rest-hop-count g s o rest u v lu lv)
     where
       go : HopCount g u v (s .distance u v) → s .downstream u v ≡ 255
       go (joined l p h) = absurd (f (s .distance u v) p)
-      go (apart e h) = downstream-nearest u v lu lv (λ i. f 0 (subst (λ (x : ℕ). Walk g u x 0) i here)) ∙ nearest-none s u v (s .distance u v) (e ∙ sym (o .nodes))
+      go (apart e h) = current-none (current u v lu lv) (λ i. f 0 (subst (λ (x : ℕ). Walk g u x 0) i here)) (e ∙ sym (o .nodes))
 
   downstream-next : (u v d : ℕ) → u < g .n → v < g .n → suc d < g .n → HopCount g u v (suc d) → Nearer g u v d (s .downstream u v)
-  downstream-next u v d lu lv l h = rw (downstream-nearest u v lu lv away) (record {
+  downstream-next u v d lu lv l h = record {
     below = below;
     linked = linked;
     nearer = subst (HopCount g x v) near (rest-hop-count g s o rest x v below lv);
     lowest = λ w lw q k.
         let e : s .distance w v ≡ d = hop-count-same (rest-hop-count g s o rest w v lw lv) k in
         c .lowest w (omega arith) (o .links u w lu lw ∙ q) (ap suc (rest-view g s o rest u w v lu lw lv q ∙ e) ∙ sym far);
-  })
+  }
     where
       far : s .distance u v ≡ suc d
       far = hop-count-same (rest-hop-count g s o rest u v lu lv) h
@@ -41,10 +39,10 @@ module _ (g s : State) (o : Over g s) (rest : AtRest s) where
       away e = omega (arith, far, distance-own g s o u v lu lv e)
 
       x : ℕ
-      x = nearest s u v (s .distance u v)
+      x = s .downstream u v
 
       c : Gives s u v (s .distance u v) x
-      c = nearest-gives s u v (s .distance u v) (o .sound .distances u v (omega arith) (omega arith) ∙ route-distance-other s u v away) (omega (arith, far))
+      c = current-gives (current u v lu lv) away (omega (arith, far))
 
       below : x < g .n
       below = omega (arith, c .below)
@@ -60,7 +58,7 @@ module _ (g s : State) (o : Over g s) (rest : AtRest s) where
     nodes = o .nodes;
     empty = rest;
     distances = rest-hop-count g s o rest;
-    own = λ u lu. o .sound .downstreams u u (omega arith) (omega arith) ∙ route-downstream-own s u u refl;
+    own = λ u lu. current-own (current u u lu lu) refl;
     none = downstream-none;
     next = downstream-next;
   }

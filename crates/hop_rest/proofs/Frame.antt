@@ -4,7 +4,7 @@ use mathlib.Core.Logic.{_≢_}
 use mathlib.Core.List.{List, [], _∷_}
 use Prim.Native.Nat.{ℕ}
 use Rattle.hop_rule.specs.State.{State, Entry}
-use Rattle.hop_rule.specs.Rule.{route, send, recompute, hear, deliver}
+use Rattle.hop_rule.specs.Rule.{distanceOf, send, recompute, hear, deliver}
 use Rattle.hop_laws.proofs.Rule.{recompute-distance-at, recompute-distance-other, recompute-downstream-other, recompute-queue-sent, recompute-queue-other, hear-view-at, hear-view-other, hear-queue-at, hear-queue-other, deliver-head, deliver-none}
 
 -- v is the destination of the entry at the head.
@@ -58,7 +58,7 @@ module _ (s : State) (w u : ℕ) (head : Entry) (rest : List Entry) (waited : s 
   unfolding recompute
   deliver-view-learnt = rw is (hear-view-at s w u head rest)
 
-  distance-at : deliver s w u .distance u (head .destination) ≡ route (hear s w u head rest) u (head .destination) .distance
+  distance-at : deliver s w u .distance u (head .destination) ≡ distanceOf (hear s w u head rest) u (head .destination)
   distance-at = rw is (recompute-distance-at (hear s w u head rest) u (head .destination))
 
   pub deliver-queue-left : w ≢ u → deliver s w u .queue w u ≡ rest

@@ -7,12 +7,12 @@ use native.Mathlib.Nat.{le-of-eq}
 use native.Mathlib.Decide.{ℕ-discrete}
 use native.Mathlib.Omega.{arith}
 use lib.ListN.{length}
-use Rattle.hop_rule.specs.State.{State, Entry, Route}
-use Rattle.hop_rule.specs.Rule.{route, recompute, hear, deliver, linkUp, cut, recomputeAll, linkDown, pass, passes}
+use Rattle.hop_rule.specs.State.{State, Entry}
+use Rattle.hop_rule.specs.Rule.{distanceOf, recompute, hear, deliver, linkUp, cut, recomputeAll, linkDown, pass, passes}
 use Rattle.hop_rule.specs.Sound.{Each, Sound}
 use Rattle.hop_laws.proofs.Tests.{tells-eq, tells-and, decides}
 use Rattle.hop_laws.proofs.Words.{loop-keeps}
-use Rattle.hop_laws.proofs.Rule.{route-same, route-alike, route-distance-most, hear-view-at, hear-view-other, hear-queue-at, hear-queue-other, deliver-head, deliver-none, Between, tells-between, between-back, up-link-at, up-link-other, up-queue-at, up-queue-other, cut-link-at, cut-link-other, cut-view-at, cut-view-other, cut-queue-at, cut-queue-other}
+use Rattle.hop_laws.proofs.Rule.{Alike, same-alike, distanceOf-most, sound-current, current-alike, hear-view-at, hear-view-other, hear-queue-at, hear-queue-other, deliver-head, deliver-none, Between, tells-between, between-back, up-link-at, up-link-other, up-queue-at, up-queue-other, cut-link-at, cut-link-other, cut-view-at, cut-view-other, cut-queue-at, cut-queue-other}
 use Rattle.hop_rest.proofs.Frame.{deliver-n}
 use Rattle.hop_rest.proofs.Mended.{Brings, Steady, SoundBut, sound-steady, but-sound, brings-same, brings-hear, brings-all, recompute-mends, recompute-all-mends, recompute-all-n}
 
@@ -61,21 +61,20 @@ module _ (s : State) (w u : ℕ) (head : Entry) (rest : List Entry) (o : Sound s
       down-queues = λ x y lx ly f. hear-queue-other s w u head rest y x (λ j i. f (is-linked x y i j)) ∙ c .down-queues x y lx ly f;
       brings = heard-brings;
     };
-    distances = λ a b la lb f. o .distances a b la lb ∙ sym (ap (λ (r : Route). r .distance) (same a b f));
-    downstreams = λ a b la lb f. o .downstreams a b la lb ∙ sym (ap (λ (r : Route). r .downstream) (same a b f));
+    current = λ a b la lb f. current-alike (same a b f) refl refl (sound-current o a b la lb);
   }
     where
       low : (x y v : ℕ) → x < s .n → y < s .n → v < s .n → Dec ((x ≡ u) × ((y ≡ w) × (v ≡ head .destination))) → hear s w u head rest .view x y v ≤ s .n
       low x y v lx ly lv (yes p) =
-          let e : head .value ≡ route s w (head .destination) .distance = first .entries .0 .1 ∙ o .distances w (head .destination) lw (first .entries .0 .0) in
-          rw (p .0, p .1 .0, p .1 .1, hear-view-at s w u head rest, e) (route-distance-most s w (head .destination))
+          let e : head .value ≡ distanceOf s w (head .destination) = first .entries .0 .1 ∙ o .distances w (head .destination) lw (first .entries .0 .0) in
+          rw (p .0, p .1 .0, p .1 .1, hear-view-at s w u head rest, e) (distanceOf-most s w (head .destination))
       low x y v lx ly lv (no f) = rw (hear-view-other s w u head rest x y v (λ i j k. f (i, (j, k)))) (o .views x y v lx ly lv)
 
       is-linked : (x y : ℕ) → x ≡ u → y ≡ w → s .link x y ≡ 1
       is-linked x y i j = rw (i, j) linked
 
-      same : (a b : ℕ) → ((a ≡ u) × (b ≡ head .destination) → ⊥) → route (hear s w u head rest) a b ≡ route s a b
-      same a b f = route-same s (hear s w u head rest) a b refl (λ y l. refl) (λ y l. hear-view-other s w u head rest a y b (λ i j k. f (i, k)))
+      same : (a b : ℕ) → ((a ≡ u) × (b ≡ head .destination) → ⊥) → Alike s (hear s w u head rest) a b
+      same a b f = same-alike s (hear s w u head rest) a b refl (λ y l. refl) (λ y l. hear-view-other s w u head rest a y b (λ i j k. f (i, k)))
 
   mended : Sound (recompute (hear s w u head rest) u (head .destination))
   unfolding hear recompute
@@ -113,8 +112,7 @@ module _ (s : State) (a b : ℕ) (o : Sound s) where
       down-queues = λ x y lx ly f. down-queue x y lx ly f (decides (tells-between a b x y));
       brings = λ x y lx ly q. cut-brings x y lx ly q (λ h. omega (arith, cut-link-at s a b x y h));
     };
-    distances = λ x v lx lv f. o .distances x v lx lv ∙ sym (ap (λ (r : Route). r .distance) (same x v f));
-    downstreams = λ x v lx lv f. o .downstreams x v lx lv ∙ sym (ap (λ (r : Route). r .downstream) (same x v f));
+    current = λ x v lx lv f. current-alike (same x v f) refl refl (sound-current o x v lx lv);
   }
     where
       bit : (x y : ℕ) → x < s .n → y < s .n → Dec (Between a b x y) → cut s a b .link x y ≤ 1
@@ -137,8 +135,8 @@ module _ (s : State) (a b : ℕ) (o : Sound s) where
       down-queue x y lx ly k (yes h) = cut-queue-at s a b y x (between-back h)
       down-queue x y lx ly k (no f) = cut-queue-other s a b y x (λ h. f (between-back h)) ∙ o .down-queues x y lx ly (λ q. k (cut-link-other s a b x y f ∙ q))
 
-      same : (x v : ℕ) → ((x ≡ a) ⊎ (x ≡ b) → ⊥) → route (cut s a b) x v ≡ route s x v
-      same x v f = route-same s (cut s a b) x v refl (λ y l. cut-link-other s a b x y (away y)) (λ y l. cut-view-other s a b x y v (away y))
+      same : (x v : ℕ) → ((x ≡ a) ⊎ (x ≡ b) → ⊥) → Alike s (cut s a b) x v
+      same x v f = same-alike s (cut s a b) x v refl (λ y l. cut-link-other s a b x y (away y)) (λ y l. cut-view-other s a b x y v (away y))
         where
           away : (y : ℕ) → Between a b x y → ⊥
           away y (inl p) = f (inl (p .0))
@@ -167,9 +165,13 @@ module _ (s : State) (a b : ℕ) (o : Sound s) (la : a < s .n) (lb : b < s .n) (
   up-brings x y lx ly q (no f) = rw (up-queue-other s a b y x (λ h. f (between-back h))) (sound-steady o .brings x y lx ly (sym (up-link-other s a b x y f) ∙ q))
 
   -- The views on it are n, so that recompute finds what it found.
-  up-route : (x v : ℕ) → x < s .n → v < s .n → route (linkUp s a b) x v ≡ route s x v
+  up-alike : (x v : ℕ) → x < s .n → v < s .n → Alike s (linkUp s a b) x v
   unfolding linkUp
-  up-route x v lx lv = route-alike s (linkUp s a b) x v refl (λ y l q k. (still y q (decides (tells-between a b x y)), refl)) (λ y l q k. (before y l q k (decides (tells-between a b x y)), refl))
+  up-alike x v lx lv = record {
+    n = refl;
+    there = λ y l q k. (still y q (decides (tells-between a b x y)), refl);
+    back = λ y l q k. (before y l q k (decides (tells-between a b x y)), refl);
+  }
     where
       still : (y : ℕ) → s .link x y ≡ 1 → Dec (Between a b x y) → linkUp s a b .link x y ≡ 1
       still y q (yes h) = up-link-at s a b x y h
@@ -191,8 +193,7 @@ module _ (s : State) (a b : ℕ) (o : Sound s) (la : a < s .n) (lb : b < s .n) (
       down-queues = λ x y lx ly k. up-queue-other s a b y x (λ h. off x y k (between-back h)) ∙ o .down-queues x y lx ly (λ q. k (up-link-other s a b x y (off x y k) ∙ q));
       brings = λ x y lx ly q. up-brings x y lx ly q (decides (tells-between a b x y));
     };
-    distances = λ x v lx lv f. o .distances x v lx lv ∙ sym (ap (λ (r : Route). r .distance) (up-route x v lx lv));
-    downstreams = λ x v lx lv f. o .downstreams x v lx lv ∙ sym (ap (λ (r : Route). r .downstream) (up-route x v lx lv));
+    current = λ x v lx lv f. current-alike (up-alike x v lx lv) refl refl (sound-current o x v lx lv);
   })
     where
       bit : (x y : ℕ) → x < s .n → y < s .n → Dec (Between a b x y) → linkUp s a b .link x y ≤ 1

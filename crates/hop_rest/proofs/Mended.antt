@@ -8,11 +8,11 @@ use native.Mathlib.Decide.{ℕ-discrete}
 use native.Mathlib.Omega.{arith}
 use lib.ListN.{length}
 use Rattle.hop_rule.specs.Words.{loop, listed}
-use Rattle.hop_rule.specs.State.{State, Entry, Route}
-use Rattle.hop_rule.specs.Rule.{route, send, recompute, recomputeAll}
+use Rattle.hop_rule.specs.State.{State, Entry}
+use Rattle.hop_rule.specs.Rule.{distanceOf, send, recompute, recomputeAll}
 use Rattle.hop_rule.specs.Sound.{Waits, Differ, Each, Sound}
 use Rattle.hop_laws.proofs.Tests.{tells-eq, tells-and, decides}
-use Rattle.hop_laws.proofs.Rule.{route-same, recompute-distance-at, recompute-distance-other, recompute-downstream-at, recompute-downstream-other, recompute-queue-sent, recompute-queue-other}
+use Rattle.hop_laws.proofs.Rule.{same-alike, Current, current-alike, recompute-distance-at, recompute-distance-other, recompute-downstream-other, recompute-current, recompute-queue-sent, recompute-queue-other}
 use Rattle.hop_laws.proofs.Queues.{each-as, each-both, send-sends, send-keeps, send-differ, send-each, listed-each, listed-waits, listed-differ, differ-most}
 
 -- ---- a queue and its two ends
@@ -77,8 +77,7 @@ pub record Steady (s : State) : Type 0 where
 -- Sound, but that the pairs of P may be stale.
 pub record SoundBut (P : ℕ → ℕ → Type 0) (s : State) : Type 0 where
   pub steady : Steady s
-  pub distances : (u v : ℕ) → u < s .n → v < s .n → (P u v → ⊥) → s .distance u v ≡ route s u v .distance
-  pub downstreams : (u v : ℕ) → u < s .n → v < s .n → (P u v → ⊥) → s .downstream u v ≡ route s u v .downstream
+  pub current : (u v : ℕ) → u < s .n → v < s .n → (P u v → ⊥) → Current s u v
 
 pub sound-steady : {s : State} → Sound s → Steady s
 sound-steady {s} o = record {
@@ -101,8 +100,8 @@ but-sound P s none o = record {
   bits = c .bits;
   symmetric = c .symmetric;
   diagonal = c .diagonal;
-  distances = λ u v lu lv. o .distances u v lu lv (none u v lu lv);
-  downstreams = λ u v lu lv. o .downstreams u v lu lv (none u v lu lv);
+  distances = λ u v lu lv. o .current u v lu lv (none u v lu lv) .distance;
+  downstreams = λ u v lu lv. o .current u v lu lv (none u v lu lv) .downstream;
   views = c .views;
   down-views = c .down-views;
   down-queues = c .down-queues;
@@ -129,12 +128,8 @@ module _ (P : ℕ → ℕ → Type 0) (s : State) (u v : ℕ) (lu : u < s .n) (l
   c : Steady s
   c = o .steady
 
-  same-route : (a b : ℕ) → route (recompute s u v) a b ≡ route s a b
-  unfolding recompute
-  same-route a b = route-same s (recompute s u v) a b refl (λ w l. refl) (λ w l. refl)
-
   -- A node's distances stay, unless it is u and its distance to v changed.
-  kept-distance : (a b : ℕ) → (a ≡ u → route s u v .distance ≡ s .distance u v) → recompute s u v .distance a b ≡ s .distance a b
+  kept-distance : (a b : ℕ) → (a ≡ u → distanceOf s u v ≡ s .distance u v) → recompute s u v .distance a b ≡ s .distance a b
   kept-distance a b f = go (decides (tells-and (tells-eq a u) (tells-eq b v)))
     where
       go : Dec ((a ≡ u) × (b ≡ v)) → recompute s u v .distance a b ≡ s .distance a b
@@ -143,16 +138,16 @@ module _ (P : ℕ → ℕ → Type 0) (s : State) (u v : ℕ) (lu : u < s .n) (l
 
   -- A queue of an up link: u sent on it, or its sender's distances stay.
   mended-brings : (x y : ℕ) → x < s .n → y < s .n → s .link x y ≡ 1 → Brings (s .n) (recompute s u v .distance y) (s .view x y) (recompute s u v .queue y x)
-  mended-brings x y lx ly q = go (ℕ-discrete y u) (ℕ-discrete (route s u v .distance) (s .distance u v))
+  mended-brings x y lx ly q = go (ℕ-discrete y u) (ℕ-discrete (distanceOf s u v) (s .distance u v))
     where
-      kept : (y ≡ u → route s u v .distance ≡ s .distance u v) → Brings (s .n) (recompute s u v .distance y) (s .view x y) (recompute s u v .queue y x)
+      kept : (y ≡ u → distanceOf s u v ≡ s .distance u v) → Brings (s .n) (recompute s u v .distance y) (s .view x y) (recompute s u v .queue y x)
       kept f = rw (recompute-queue-other s u v y x (λ i k. f i)) (brings-same _ _ _ _ _ _ (λ b l. kept-distance y b f) (λ b l. refl) (c .brings x y lx ly q))
 
-      go : Dec (y ≡ u) → Dec (route s u v .distance ≡ s .distance u v) → Brings (s .n) (recompute s u v .distance y) (s .view x y) (recompute s u v .queue y x)
+      go : Dec (y ≡ u) → Dec (distanceOf s u v ≡ s .distance u v) → Brings (s .n) (recompute s u v .distance y) (s .view x y) (recompute s u v .queue y x)
       go (yes i) (no f) =
           let r : s .link x u ≡ 1 = rw i at q in
           rw (i, recompute-queue-sent s u v x (c .symmetric u x lu lx ∙ r) f)
-          (brings-send _ _ _ _ (record { destination = v; value = route s u v .distance }) _ lv (sym (recompute-distance-at s u v)) (λ b k. recompute-distance-other s u v u b (λ j. k)) (c .brings x u lx lu r))
+          (brings-send _ _ _ _ (record { destination = v; value = distanceOf s u v }) _ lv (sym (recompute-distance-at s u v)) (λ b k. recompute-distance-other s u v u b (λ j. k)) (c .brings x u lx lu r))
       go (yes i) (yes e) = kept (λ z. e)
       go (no i) e = kept (λ z. absurd (i z))
 
@@ -168,17 +163,13 @@ module _ (P : ℕ → ℕ → Type 0) (s : State) (u v : ℕ) (lu : u < s .n) (l
       down-queues = λ x y lx ly f. recompute-queue-other s u v y x (λ i q. absurd (f (c .symmetric x y lx ly ∙ ap (λ (z : ℕ). s .link z x) i ∙ q))) ∙ c .down-queues x y lx ly f;
       brings = mended-brings;
     };
-    distances = λ a b la lb f. distance a b la lb f (decides (tells-and (tells-eq a u) (tells-eq b v))) ∙ sym (ap (λ (r : Route). r .distance) (same-route a b));
-    downstreams = λ a b la lb f. downstream a b la lb f (decides (tells-and (tells-eq a u) (tells-eq b v))) ∙ sym (ap (λ (r : Route). r .downstream) (same-route a b));
+    current = λ a b la lb f. mended a b la lb f (decides (tells-and (tells-eq a u) (tells-eq b v)));
   }
     where
-      distance : (a b : ℕ) → a < s .n → b < s .n → (P a b × (a ≡ u → b ≢ v) → ⊥) → Dec ((a ≡ u) × (b ≡ v)) → recompute s u v .distance a b ≡ route s a b .distance
-      distance a b la lb f (yes p) = rw (p .0, p .1) (recompute-distance-at s u v)
-      distance a b la lb f (no k) = recompute-distance-other s u v a b (λ i j. k (i, j)) ∙ o .distances a b la lb (λ p. f (p, λ i j. k (i, j)))
-
-      downstream : (a b : ℕ) → a < s .n → b < s .n → (P a b × (a ≡ u → b ≢ v) → ⊥) → Dec ((a ≡ u) × (b ≡ v)) → recompute s u v .downstream a b ≡ route s a b .downstream
-      downstream a b la lb f (yes p) = rw (p .0, p .1) (recompute-downstream-at s u v)
-      downstream a b la lb f (no k) = recompute-downstream-other s u v a b (λ i j. k (i, j)) ∙ o .downstreams a b la lb (λ p. f (p, λ i j. k (i, j)))
+      mended : (a b : ℕ) → a < s .n → b < s .n → (P a b × (a ≡ u → b ≢ v) → ⊥) → Dec ((a ≡ u) × (b ≡ v)) → Current (recompute s u v) a b
+      mended a b la lb f (yes p) = rw (p .0, p .1) (recompute-current s u v)
+      mended a b la lb f (no k) = current-alike (same-alike s (recompute s u v) a b refl (λ w l. refl) (λ w l. refl))
+          (recompute-distance-other s u v a b (λ i j. k (i, j))) (recompute-downstream-other s u v a b (λ i j. k (i, j))) (o .current a b la lb (λ p. f (p, λ i j. k (i, j))))
 
 -- ---- u recomputes every destination, and all its pairs are mended
 
@@ -186,8 +177,7 @@ module _ (P : ℕ → ℕ → Type 0) (s : State) (u v : ℕ) (lu : u < s .n) (l
 but-more : (P Q : ℕ → ℕ → Type 0) (s : State) → ((a b : ℕ) → b < s .n → P a b → Q a b) → SoundBut P s → SoundBut Q s
 but-more P Q s f o = record {
   steady = o .steady;
-  distances = λ u v lu lv k. o .distances u v lu lv (λ p. k (f u v lv p));
-  downstreams = λ u v lu lv k. o .downstreams u v lu lv (λ p. k (f u v lv p));
+  current = λ u v lu lv k. o .current u v lu lv (λ p. k (f u v lv p));
 }
 
 recompute-loop-n : (s : State) (u k : ℕ) → loop k (λ v t. recompute t u v) s .n ≡ s .n

@@ -8,7 +8,7 @@ use native.Mathlib.Omega.{arith}
 use Rattle.hop_rule.specs.State.{State}
 use Rattle.hop_rule.specs.Rule.{least}
 use Rattle.hop_rule.specs.Sound.{Waits, Sound}
-use Rattle.hop_laws.proofs.Rule.{Attained, least-under, least-attained, route-distance-own, route-distance-other, route-distance-most}
+use Rattle.hop_laws.proofs.Rule.{Attained, least-under, least-attained, distanceOf-own, distanceOf-other, distanceOf-most}
 use Rattle.hop_rest.specs.Walks.{Walk, here, hop}
 use Rattle.hop_rest.proofs.Walks.{Begins, walk-begins}
 
@@ -49,13 +49,13 @@ module _ (g s : State) (o : Over g s) where
   -- ---- what soundness says, over g
 
   pub distance-most : (u v : ℕ) → u < g .n → v < g .n → s .distance u v ≤ g .n
-  distance-most u v lu lv = omega (arith, o .sound .distances u v (omega arith) (omega arith), route-distance-most s u v)
+  distance-most u v lu lv = omega (arith, o .sound .distances u v (omega arith) (omega arith), distanceOf-most s u v)
 
   distance-least : (u v : ℕ) → u < g .n → v < g .n → u ≢ v → s .distance u v ≡ least s u v (s .n)
-  distance-least u v lu lv f = o .sound .distances u v (omega arith) (omega arith) ∙ route-distance-other s u v f
+  distance-least u v lu lv f = o .sound .distances u v (omega arith) (omega arith) ∙ distanceOf-other s u v f
 
   pub distance-own : (u v : ℕ) → u < g .n → v < g .n → u ≡ v → s .distance u v ≡ 0
-  distance-own u v lu lv e = o .sound .distances u v (omega arith) (omega arith) ∙ route-distance-own s u v e
+  distance-own u v lu lv e = o .sound .distances u v (omega arith) (omega arith) ∙ distanceOf-own s u v e
 
   pub distance-under : (u w v : ℕ) → u < g .n → w < g .n → v < g .n → u ≢ v → g .link u w ≡ 1 → s .distance u v ≤ suc (s .view u w v)
   distance-under u w v lu lw lv f q = rw (distance-least u v lu lv f) (least-under s u v (s .n) w (omega arith) (o .links u w lu lw ∙ q))

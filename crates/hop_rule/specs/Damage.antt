@@ -7,7 +7,7 @@ use lib.ListN.{length, set, replicate}
 use Rattle.hop_rule.specs.declared.Table.{Table}
 use Rattle.hop_rule.specs.declared.Table.the-variants.{Links, Distances, Downstreams, Views, Lengths, Destinations, Values}
 use Rattle.hop_rule.specs.Words.{loop, sum, listed, joined, every, first}
-use Rattle.hop_rule.specs.Rule.{least, nearest, route, linkUp, fresh}
+use Rattle.hop_rule.specs.Rule.{least, distanceOf, downstreamOf, linkUp, fresh}
 use Rattle.hop_rule.specs.Stored.{size, grid, cube, destinationAt, valueAt, block, stored, start, nodes, flat, deep, readAs, read}
 use Rattle.hop_rule.specs.Sound.{waits, differ, each, pairs, triples, isSound, isSoundAs}
 use Rattle.hop_rule.specs.Calls.{check, judge, refusals, done, outcome}
@@ -63,5 +63,5 @@ number s = outcome check s [] .number
 
 -- The undamaged states are accepted, and each damaged one is refused with 3.
 pub damage-refused : map number (apart ∷ linked ∷ damages) ≡ 0 ∷ 0 ∷ replicate (length damages) 3
-unfolding number damages damaged apart linked outcome done refusals judge isSoundAs isSound triples pairs each differ waits readAs deep flat nodes start stored block valueAt destinationAt cube grid size fresh linkUp route nearest least first every joined listed sum loop
+unfolding number damages damaged apart linked outcome done refusals judge isSoundAs isSound triples pairs each differ waits readAs deep flat nodes start stored block valueAt destinationAt cube grid size fresh linkUp downstreamOf distanceOf least first every joined listed sum loop
 damage-refused = refl

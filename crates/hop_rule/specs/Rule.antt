@@ -5,26 +5,26 @@ use Prim.Native.Nat.{ℕ, zero, suc, min}
 use lib.Dec.{eqb, ltb}
 use lib.ListN.{length}
 use Rattle.hop_rule.specs.Words.{if_then_else_, loop, sum, listed, first}
-use Rattle.hop_rule.specs.State.{State, Entry, Route}
+use Rattle.hop_rule.specs.State.{State, Entry}
 
 -- A link is up at u's end where its byte is exactly 1.
 abbrev pub up : State → ℕ → ℕ → Bool
 up s u w = eqb (s .link u w) 1
 
--- 'Recompute': the smaller of n and 1 + the least view of v over u's up links to the first k nodes.
+-- 'Recompute', the distance of u to v. If v = u: 0. Otherwise the smaller of n and 1 + the least view of v over u's up links, of which `least` has those to the first k nodes.
 unfoldable pub least : State → ℕ → ℕ → ℕ → ℕ
 least s u v zero = s .n
 least s u v (suc w) = if up s u w then min (suc (s .view u w v)) (least s u v w) else least s u v w
 
--- 'Recompute': the lowest-numbered neighbour that gives the distance d, or 255 (none) where d is n.
-unfoldable pub nearest : State → ℕ → ℕ → ℕ → ℕ
-nearest s u v d = if eqb d (s .n) then 255 else first (s .n) (λ w. up s u w && eqb (suc (s .view u w v)) d)
+unfoldable pub distanceOf : State → ℕ → ℕ → ℕ
+distanceOf s u v = if eqb u v then 0 else least s u v (s .n)
 
--- 'Recompute': what it gives for v at u. If v = u: distance 0, downstream u, always.
-unfoldable pub route : State → ℕ → ℕ → Route
-route s u v =
-    let d = least s u v (s .n) in
-    if eqb u v then record { distance = 0; downstream = u } else record { distance = d; downstream = nearest s u v d }
+-- 'Recompute', the downstream of u for v at the distance d. If v = u: u. Otherwise the lowest-numbered neighbour that gives this distance, or 255 (none) where the distance is n.
+abbrev pub gives : State → ℕ → ℕ → ℕ → ℕ → Bool
+gives s u v d w = up s u w && eqb (suc (s .view u w v)) d
+
+unfoldable pub downstreamOf : State → ℕ → ℕ → ℕ → ℕ
+downstreamOf s u v d = if eqb u v then u else if eqb d (s .n) then 255 else first (s .n) (gives s u v d)
 
 -- 'Sending': if v already waits, its value is replaced and it keeps its place; otherwise the entry joins the tail.
 unfoldable pub send : Entry → List Entry → List Entry
@@ -34,14 +34,15 @@ send e (f ∷ q) = if eqb (e .destination) (f .destination) then e ∷ q else f 
 -- 'Recompute' of v at u. If the distance changed, the entry (v, new distance) is sent on each up link of u; a changed downstream alone sends nothing.
 unfoldable pub recompute : State → ℕ → ℕ → State
 recompute s u v =
-    let new = route s u v in
-    let changed = not (eqb (new .distance) (s .distance u v)) in
-    let entry : Entry = record { destination = v; value = new .distance } in
+    let d = distanceOf s u v in
+    let x = downstreamOf s u v d in
+    let changed = not (eqb d (s .distance u v)) in
+    let entry : Entry = record { destination = v; value = d } in
     record {
       n = s .n;
       link = s .link;
-      distance = λ a c. if eqb a u && eqb c v then new .distance else s .distance a c;
-      downstream = λ a c. if eqb a u && eqb c v then new .downstream else s .downstream a c;
+      distance = λ a c. if eqb a u && eqb c v then d else s .distance a c;
+      downstream = λ a c. if eqb a u && eqb c v then x else s .downstream a c;
       view = s .view;
       queue = λ a b. if eqb a u && (up s u b && changed) then send entry (s .queue a b) else s .queue a b;
     }

@@ -9,7 +9,7 @@ use lib.ListN.{length}
 use Rattle.hop_rule.specs.declared.Table.the-variants.{Lengths, Destinations, Values}
 use Rattle.hop_rule.specs.Words.{every}
 use Rattle.hop_rule.specs.State.{State, Entry}
-use Rattle.hop_rule.specs.Rule.{up, route}
+use Rattle.hop_rule.specs.Rule.{up, distanceOf, downstreamOf}
 use Rattle.hop_rule.specs.Stored.{nodes, flat, deep, readAs}
 
 -- v waits in the queue.
@@ -27,14 +27,18 @@ abbrev pub Each : (Entry → Type 0) → List Entry → Type 0
 Each P [] = Unit {0}
 Each P (e ∷ q) = P e × Each P q
 
+-- u's downstream for v is what recompute gives at u's distance.
+abbrev pub Leads : State → ℕ → ℕ → Type 0
+Leads s u v = s .downstream u v ≡ downstreamOf s u v (s .distance u v)
+
 pub record Sound (s : State) : Type 0 where
   -- link bytes are 0 or 1, symmetric, 0 on the diagonal;
   pub bits : (u w : ℕ) → u < s .n → w < s .n → s .link u w ≤ 1
   pub symmetric : (u w : ℕ) → u < s .n → w < s .n → s .link u w ≡ s .link w u
   pub diagonal : (u : ℕ) → u < s .n → s .link u u ≡ 0
   -- each distance and downstream is what recompute gives from the views, and views are at most n;
-  pub distances : (u v : ℕ) → u < s .n → v < s .n → s .distance u v ≡ route s u v .distance
-  pub downstreams : (u v : ℕ) → u < s .n → v < s .n → s .downstream u v ≡ route s u v .downstream
+  pub distances : (u v : ℕ) → u < s .n → v < s .n → s .distance u v ≡ distanceOf s u v
+  pub downstreams : (u v : ℕ) → u < s .n → v < s .n → Leads s u v
   pub views : (u w v : ℕ) → u < s .n → w < s .n → v < s .n → s .view u w v ≤ s .n
   -- on a down link (and for a node with itself, whose link is down) views are n and the queue is empty;
   pub down-views : (u w v : ℕ) → u < s .n → w < s .n → v < s .n → (s .link u w ≡ 1 → ⊥) → s .view u w v ≡ s .n
@@ -75,6 +79,9 @@ unfoldable pub each : (Entry → Bool) → List Entry → Bool
 each p [] = true
 each p (e ∷ q) = p e && each p q
 
+abbrev pub leads : State → ℕ → ℕ → Bool
+leads s u v = eqb (s .downstream u v) (downstreamOf s u v (s .distance u v))
+
 -- All pairs of nodes, and all triples.
 unfoldable pub pairs : ℕ → (ℕ → ℕ → Bool) → Bool
 pairs n p = every n (λ a. every n (λ b. p a b))
@@ -87,8 +94,8 @@ isSound s =
     pairs (s .n) (λ u w. leb (s .link u w) 1)
     && pairs (s .n) (λ u w. eqb (s .link u w) (s .link w u))
     && every (s .n) (λ u. eqb (s .link u u) 0)
-    && pairs (s .n) (λ u v. eqb (s .distance u v) (route s u v .distance))
-    && pairs (s .n) (λ u v. eqb (s .downstream u v) (route s u v .downstream))
+    && pairs (s .n) (λ u v. eqb (s .distance u v) (distanceOf s u v))
+    && pairs (s .n) (λ u v. leads s u v)
     && triples (s .n) (λ u w v. leb (s .view u w v) (s .n))
     && triples (s .n) (λ u w v. up s u w || eqb (s .view u w v) (s .n))
     && pairs (s .n) (λ u w. up s u w || eqb (length (s .queue w u)) 0)

@@ -7,11 +7,6 @@ pub record Entry : Type 0 where
   pub destination : ℕ
   pub value : ℕ
 
--- What a node holds for a destination.
-pub record Route : Type 0 where
-  pub distance : ℕ
-  pub downstream : ℕ
-
 -- Links that are up (1) or down, one queue in each direction of a link, and for each node its distance and its downstream neighbour for each destination. Only nodes below n mean anything.
 pub record State : Type 0 where
   pub n : ℕ

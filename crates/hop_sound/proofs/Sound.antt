@@ -7,16 +7,16 @@ use lib.ListN.{length}
 use Rattle.hop_rule.specs.declared.Table.the-variants.{Links, Distances, Downstreams, Views, Lengths, Destinations, Values}
 use Rattle.hop_rule.specs.Words.{listed, every}
 use Rattle.hop_rule.specs.State.{Entry}
-use Rattle.hop_rule.specs.Rule.{route}
 use Rattle.hop_rule.specs.Stored.{flat, deep, readAs}
 use Rattle.hop_rule.specs.Sound.{SoundAs, isSoundAs}
 use Rattle.hop_laws.proofs.Tests.{tells-as, tells-same}
 use Rattle.hop_laws.proofs.Words.{length-listed}
+use Rattle.hop_laws.proofs.Rule.{Current, sound-current}
 use Rattle.hop_laws.proofs.Queues.{listed-each}
 use Rattle.hop_laws.proofs.Sound.{sound-bytes-tells}
 use Rattle.hop_sound.specs.Check.{nodeSound, allSound}
 use Rattle.hop_sound.proofs.Listed.{each-at, waits-at, at-waits, differ-at, at-differ}
-use Rattle.hop_sound.proofs.Routes.{given-route, route-given, route-allowed}
+use Rattle.hop_sound.proofs.Routes.{given-current, current-given, current-allowed}
 use Rattle.hop_sound.proofs.Judged.{Judged, tells-judged}
 
 listed-none : (k : ℕ) (f : ℕ → Entry) → k ≡ 0 → listed k f ≡ []
@@ -35,8 +35,8 @@ module _ (n : ℕ) (s : List ℕ) where
       bits = λ u w lu lw. j .paired u w lu lw .bit;
       symmetric = λ u w lu lw. j .paired u w lu lw .symmetric;
       diagonal = λ u lu. j .paired u u lu lu .diagonal refl;
-      distances = λ u v lu lv. routed u v lu lv .0;
-      downstreams = λ u v lu lv. routed u v lu lv .1;
+      distances = λ u v lu lv. current u v lu lv .distance;
+      downstreams = λ u v lu lv. current u v lu lv .downstream;
       views = j .views;
       down-views = λ u w v lu lw lv f. j .paired u w lu lw .down-views f v lv;
       down-queues = λ u w lu lw f. listed-none _ (entry w u) (j .paired u w lu lw .down-queue f);
@@ -50,8 +50,8 @@ module _ (n : ℕ) (s : List ℕ) where
     past-values = λ w u p lw lu lp k. j .sent w u lw lu .past p lp k .1;
   }
     where
-      routed : (u v : ℕ) → u < n → v < n → (flat n s Distances u v ≡ route (readAs n s) u v .distance) × (flat n s Downstreams u v ≡ route (readAs n s) u v .downstream)
-      routed u v lu lv = given-route (readAs n s) u v _ _ (λ w lw q. j .paired u w lu lw .allows q v lv) (j .given u v lu lv)
+      current : (u v : ℕ) → u < n → v < n → Current (readAs n s) u v
+      current u v lu lv = given-current (readAs n s) u v (λ w lw q. j .paired u w lu lw .allows q v lv) (j .given u v lu lv)
 
   sound-judged : SoundAs n s → Judged n s
   unfolding readAs
@@ -68,11 +68,11 @@ module _ (n : ℕ) (s : List ℕ) where
         differ = differ-at _ (entry w u) (o .state .differ u w lu lw q);
         heard = λ v lv f. o .state .heard u w v lu lw lv q (λ m. let (p, l, e) = waits-at v _ (entry w u) m in f p l (sym e));
       };
-      allows = λ q v lv. route-allowed (readAs n s) u v _ _ (o .state .distances u v lu lv) (o .state .downstreams u v lu lv) w lw q;
+      allows = λ q v lv. current-allowed (readAs n s) u v (sound-current (o .state) u v lu lv) w lw q;
       down-views = λ f v lv. o .state .down-views u w v lu lw lv f;
       down-queue = λ f. omega (arith, length-listed (flat n s Lengths w u) (entry w u), ap length (o .state .down-queues u w lu lw f));
     };
-    given = λ u v lu lv. route-given (readAs n s) u v _ _ (o .state .distances u v lu lv) (o .state .downstreams u v lu lv);
+    given = λ u v lu lv. current-given (readAs n s) u v (sound-current (o .state) u v lu lv);
     sent = λ w u lw lu. record {
       most = most u w lu lw;
       past = λ p lp k. (o .past-destinations w u p lw lu lp k, o .past-values w u p lw lu lp k);
