@@ -2,14 +2,15 @@
 use mathlib.Core.Path.{_≡_, refl, sym, ap, subst, _∙_}
 use mathlib.Core.List.{List, _++_}
 use Prim.Native.Nat.{ℕ, _<_}
-use native.Mathlib.Decide.{ℕ-discrete}
 use lib.ListN.{drop}
 use Rattle.hop_rule.specs.State.{State}
 use Rattle.hop_rule.specs.Stored.{size, stored, nodes, flat, deep, readAs, read}
-use Rattle.hop_rule.specs.Sound.{Sound}
+use Rattle.hop_rule.specs.Sound.{Sends, Sound}
 use Rattle.hop_rule.specs.Calls.{restored}
 use Rattle.hop_laws.specs.Fine.{Fine}
 use Rattle.hop_laws.specs.Holds.{flatOf, deepOf}
+use Rattle.hop_laws.proofs.Tests.{decides}
+use Rattle.hop_laws.proofs.Sound.{tells-sends}
 use Rattle.hop_laws.proofs.Rule.{distanceOf-own, sound-current, current-own}
 use Rattle.hop_laws.proofs.Stored.{held-stored}
 use Rattle.hop_laws.proofs.Read.{read-holds}
@@ -22,10 +23,10 @@ sound-orderly {t} h = record {
   count = refl;
   own-distance = λ u l. h .distances u u l l ∙ distanceOf-own t u u refl;
   own-downstream = λ u l. current-own (sound-current h u u l l) refl;
-  tidy = λ w u lw lu. go w u lw lu (ℕ-discrete (t .link u w) 1);
+  tidy = λ w u lw lu. go w u lw lu (decides (tells-sends t w u));
 }
   where
-    go : (w u : ℕ) → w < t .n → u < t .n → Dec (t .link u w ≡ 1) → Tidy (t .n) (t .queue w u)
+    go : (w u : ℕ) → w < t .n → u < t .n → Dec (Sends t w u) → Tidy (t .n) (t .queue w u)
     go w u lw lu (yes e) = record { differ = h .differ u w lu lw e; below = h .below u w lu lw e }
     go w u lw lu (no f) = rw (h .down-queues u w lu lw f) (record { differ = tt; below = tt })
 

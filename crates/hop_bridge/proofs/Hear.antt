@@ -16,9 +16,9 @@ use Rattle.hop_rule.specs.Sound.{Sound}
 use Rattle.hop_laws.specs.Same.{Same}
 use Rattle.hop_laws.specs.Holds.{deepOf, blank}
 use Rattle.hop_laws.proofs.Tests.{Tells, decides, tells-eq, tells-and, choose-so, choose-else}
-use Rattle.hop_laws.proofs.Rule.{Alike, same-alike, distanceOf-most, distanceOf-alike, downstreamOf-alike, recompute-queue-other, hear-queue-at, deliver-head}
+use Rattle.hop_laws.proofs.Rule.{Alike, same-alike, distanceOf-alike, downstreamOf-alike, recompute-queue-other, hear-queue-at, deliver-head}
 use Rattle.hop_laws.proofs.Read.{destinationAt-getD, valueAt-getD}
-use Rattle.hop_rest.proofs.Kept.{waiting-linked, waiting-below}
+use Rattle.hop_rest.proofs.Kept.{waiting-sends, sends-linked, waiting-below}
 use Rattle.hop_cells.specs.Cells.{get3, put3}
 use Rattle.hop_steps.specs.Steps.{hearAt, deliver}
 use Rattle.hop_bridge.specs.Carries.{Carries}
@@ -43,7 +43,7 @@ module _ (w u : ℕ) where
 
 -- No node has a queue to itself.
 pub waiting-apart : {t : State} {w u : ℕ} {e : Entry} {rest : List Entry} → Sound t → w < t .n → u < t .n → t .queue w u ≡ e ∷ rest → w ≢ u
-waiting-apart {t} {w} {u} {e} {rest} o lw lu i j = omega (arith, waiting-linked t w u o lw lu e rest i, o .diagonal u lu, ap (t .link u) j)
+waiting-apart {t} {w} {u} {e} {rest} o lw lu i j = omega (arith, waiting-sends t w u o lw lu e rest i, o .diagonal u lu, ap (λ x. t .link x u) j)
 
 -- ---- an entry is heard where it stands
 
@@ -79,8 +79,8 @@ module _ {n : ℕ} (w u : ℕ) (lw : w < n) (lu : u < n) (t : State) (q : List E
   heard-delivered rest i f = rw (deliver-head t w u e rest i) (record {
     n = refl;
     link = λ a b la lb. refl;
-    distance = λ a c la lc. rw same;
-    downstream = λ a c la lc. rw (same, downstreamOf-alike _ reads (distanceOf-most (rule.hear t w u e rest) u (e .destination)));
+    distance = λ a c la lc. rw (distanceOf-alike reads);
+    downstream = λ a c la lc. rw (downstreamOf-alike reads);
     view = λ a b c la lb lc. refl;
     queue = λ a b la lb. go a b (decides (tells-there w u a b));
   })
@@ -88,19 +88,16 @@ module _ {n : ℕ} (w u : ℕ) (lw : w < n) (lu : u < n) (t : State) (q : List E
       reads : Alike (rule.hear t w u e rest) (rule.hear t w u e q) u (e .destination)
       reads = same-alike _ _ u (e .destination) refl (λ y l. refl) (λ y l. refl)
 
-      same : rule.distanceOf (rule.hear t w u e q) u (e .destination) ≡ rule.distanceOf (rule.hear t w u e rest) u (e .destination)
-      same = distanceOf-alike reads
-
       go : (a b : ℕ) → Dec ((a ≡ w) × (b ≡ u)) → rule.recompute (rule.hear t w u e q) u (e .destination) .queue a b ≡ cond (eqb a w && eqb b u) q (rule.recompute (rule.hear t w u e rest) u (e .destination) .queue a b)
       go a b (yes p) = rw (p .0, p .1) (recompute-queue-other (rule.hear t w u e q) u (e .destination) w u (λ j. absurd (f j)) ∙ hear-queue-at t w u e q ∙ sym (choose-so (tells-there w u w u) _ _ (refl, refl)))
-      go a b (no g) = rw (choose-else (tells-there w u a b) q (rule.recompute (rule.hear t w u e rest) u (e .destination) .queue a b) g, same, choose-else (tells-there w u a b) q (t .queue a b) g, choose-else (tells-there w u a b) rest (t .queue a b) g)
+      go a b (no g) = rw (choose-else (tells-there w u a b) q (rule.recompute (rule.hear t w u e rest) u (e .destination) .queue a b) g, distanceOf-alike reads, choose-else (tells-there w u a b) q (t .queue a b) g, choose-else (tells-there w u a b) rest (t .queue a b) g)
 
   pub hearAt-carries : {r s : List ℕ} (p : ℕ) (rest : List Entry) → p < n → Carries n r s (withQueue t w u q) → getD q p blank ≡ e → Sound t → t .n ≡ n → t .queue w u ≡ e ∷ rest → Carries n r (hearAt n w u p s) (withQueue (rule.deliver t w u) w u q)
   unfolding hearAt
   hearAt-carries {r} {s} p rest lp h at o count i =
       let v : get3 n Destinations w u p s ≡ e .destination = h .filled .deeps Destinations tt w u p lw lu lp ∙ ap (λ k. destinationAt k p) (with-at w u t q) ∙ destinationAt-getD q p ∙ ap (λ f. f .destination) at in
       let d : get3 n Values w u p s ≡ e .value = h .filled .deeps Values tt w u p lw lu lp ∙ ap (λ k. valueAt k p) (with-at w u t q) ∙ valueAt-getD q p ∙ ap (λ f. f .value) at in
-      let linked : t .link u w ≡ 1 = waiting-linked t w u o (rw count lw) (rw count lu) e rest i in
+      let linked : t .link u w ≡ 1 = sends-linked w u o (rw count lw) (rw count lu) (waiting-sends t w u o (rw count lw) (rw count lu) e rest i) in
       let lv : e .destination < n = rw count at (waiting-below t w u o (rw count lw) (rw count lu) e rest i) in
       rw (v, d, lt-ltb (e .destination) n lv)
       (carries-same (settle-carries t w u e q (hear-carries h lv) o lw lu lv linked) (withQueue (rule.deliver t w u) w u q) (heard-delivered rest i (waiting-apart o (rw count lw) (rw count lu) i)))

@@ -11,8 +11,10 @@ use borrow.Author.Tests.{lt-ltb, ne-eqb}
 use Rattle.hop_rule.specs.declared.Table.the-variants.{Links, Distances}
 use Rattle.hop_rule.specs.State.{State, Entry}
 use Rattle.hop_rule.specs.Rule as rule
+use Rattle.hop_rule.specs.Sound.{Sends}
 use Rattle.hop_laws.specs.Same.{Same}
 use Rattle.hop_laws.proofs.Tests.{Tells, decides, tells-eq, tells-lt, tells-and, choose-so, choose-else}
+use Rattle.hop_laws.proofs.Sound.{tells-sends}
 use Rattle.hop_laws.proofs.Rule.{distanceOf-own, downstreamOf-own, recompute-queue-other}
 use Rattle.hop_queues.specs.Queues as bytes
 use Rattle.hop_steps.specs.declared.Best.{Best}
@@ -28,26 +30,26 @@ use Rattle.hop_bridge.proofs.Best.{found, best-route}
 -- ---- telling
 
 module _ (t : State) (u : ℕ) (e : Entry) where
-  tells-sent : (k a b : ℕ) → Tells (eqb a u && (ltb b k && rule.up t u b)) ((a ≡ u) × ((b < k) × (t .link u b ≡ 1)))
-  tells-sent k a b = tells-and (tells-eq a u) (tells-and (tells-lt b k) (tells-eq (t .link u b) 1))
+  tells-sent : (k a b : ℕ) → Tells (eqb a u && (ltb b k && rule.sends t u b)) ((a ≡ u) × ((b < k) × Sends t u b))
+  tells-sent k a b = tells-and (tells-eq a u) (tells-and (tells-lt b k) (tells-sends t u b))
 
-  sent-at : (k a b : ℕ) → (a ≡ u) × ((b < k) × (t .link u b ≡ 1)) → withSent t u e k .queue a b ≡ rule.send e (t .queue a b)
+  sent-at : (k a b : ℕ) → (a ≡ u) × ((b < k) × Sends t u b) → withSent t u e k .queue a b ≡ rule.send e (t .queue a b)
   unfolding withSent
   sent-at k a b p = choose-so (tells-sent k a b) _ _ p
 
-  sent-other : (k a b : ℕ) → ((a ≡ u) × ((b < k) × (t .link u b ≡ 1)) → ⊥) → withSent t u e k .queue a b ≡ t .queue a b
+  sent-other : (k a b : ℕ) → ((a ≡ u) × ((b < k) × Sends t u b) → ⊥) → withSent t u e k .queue a b ≡ t .queue a b
   unfolding withSent
   sent-other k a b f = choose-else (tells-sent k a b) _ _ f
 
   -- The next node changes no queue but u's to it, and that only over an up link.
-  sent-next : (k a b : ℕ) → (a ≡ u → b ≡ k → t .link u b ≢ 1) → withSent t u e k .queue a b ≡ withSent t u e (suc k) .queue a b
+  sent-next : (k a b : ℕ) → (a ≡ u → b ≡ k → Sends t u b → ⊥) → withSent t u e k .queue a b ≡ withSent t u e (suc k) .queue a b
   sent-next k a b f = go (decides (tells-sent k a b))
     where
-      go : Dec ((a ≡ u) × ((b < k) × (t .link u b ≡ 1))) → withSent t u e k .queue a b ≡ withSent t u e (suc k) .queue a b
+      go : Dec ((a ≡ u) × ((b < k) × Sends t u b)) → withSent t u e k .queue a b ≡ withSent t u e (suc k) .queue a b
       go (yes p) = sent-at k a b p ∙ sym (sent-at (suc k) a b (p .0, (omega (arith, p .1 .0), p .1 .1)))
       go (no g) = sent-other k a b g ∙ sym (sent-other (suc k) a b (λ p. g (p .0, (let o : b ≢ k = λ i. f (p .0) i (p .1 .1) in omega (arith, p .1 .0), p .1 .1))))
 
-  sent-here : (k a b : ℕ) → t .link u k ≡ 1 → withQueue (withSent t u e k) u k (rule.send e (withSent t u e k .queue u k)) .queue a b ≡ withSent t u e (suc k) .queue a b
+  sent-here : (k a b : ℕ) → Sends t u k → withQueue (withSent t u e k) u k (rule.send e (withSent t u e k .queue u k)) .queue a b ≡ withSent t u e (suc k) .queue a b
   unfolding withQueue
   sent-here k a b l = go (decides (here k))
     where
@@ -126,7 +128,7 @@ module _ {n : ℕ} {r s : List ℕ} {t : State} (h : Carries n r s t) (u v : ℕ
   -- It changes: it is sent on each up link.
   changed : new .distance ≢ t .distance u v → Same (withSent placed u (record { destination = v; value = new .distance }) n) (rule.recompute t u v)
   unfolding rule.recompute withRoute withSent
-  changed f = same-queues placed _ _ (λ a b la lb. let l : ltb b n ≡ true = lt-ltb b n (rw (h .orderly .count) at lb) in rw (l, ne-eqb (new .distance) (t .distance u v) f, and-true (rule.up t u b)))
+  changed f = same-queues placed _ _ (λ a b la lb. let l : ltb b n ≡ true = lt-ltb b n (rw (h .orderly .count) at lb) in rw (l, ne-eqb (new .distance) (t .distance u v) f, and-true (rule.sends t u b)))
     where
       and-true : (b : Bool) → (b && true) ≡ b
       and-true true = refl

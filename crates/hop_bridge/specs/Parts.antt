@@ -5,7 +5,7 @@ use Prim.Native.Nat.{ℕ}
 use lib.Dec.{eqb, ltb}
 use Rattle.hop_rule.specs.Words.{if_then_else_}
 use Rattle.hop_rule.specs.State.{State, Entry}
-use Rattle.hop_rule.specs.Rule.{up, send}
+use Rattle.hop_rule.specs.Rule.{sends, send}
 
 -- u's end of the link to w is x.
 unfoldable pub withLink : State → ℕ → ℕ → ℕ → State
@@ -57,4 +57,4 @@ withQueue t w u q = withQueues t (λ a b. if eqb a w && eqb b u then q else t .q
 
 -- The entry e is sent on u's up links to the nodes below k.
 unfoldable pub withSent : State → ℕ → Entry → ℕ → State
-withSent t u e k = withQueues t (λ a b. if eqb a u && (ltb b k && up t u b) then send e (t .queue a b) else t .queue a b)
+withSent t u e k = withQueues t (λ a b. if eqb a u && (ltb b k && sends t u b) then send e (t .queue a b) else t .queue a b)

@@ -40,8 +40,8 @@ module _ (n : ℕ) where
     down-views = λ u w v lu lw lv down. refl;
     down-queues = λ u w lu lw down. refl;
     lengths = λ u w lu lw. omega arith;
-    differ = λ u w lu lw up. tt;
-    below = λ u w lu lw up. tt;
-    values = λ u w lu lw up. tt;
-    heard = λ u w v lu lw lv up out. absurd (omega arith);
+    differ = λ u w lu lw sends. tt;
+    below = λ u w lu lw sends. tt;
+    values = λ u w lu lw sends. tt;
+    heard = λ u w v lu lw lv sends out. absurd (omega arith);
   }

@@ -10,8 +10,8 @@ use native.Mathlib.Omega.{arith}
 use lib.Dec.{eqb}
 use Rattle.hop_rule.specs.Words.{listed, first}
 use Rattle.hop_rule.specs.State.{State, Entry}
-use Rattle.hop_rule.specs.Rule.{up, least, distanceOf, gives, downstreamOf, send, recompute, hear, deliver, between, linkUp, cut}
-use Rattle.hop_rule.specs.Sound.{Leads, Sound}
+use Rattle.hop_rule.specs.Rule.{up, sends, least, distanceOf, gives, downstreamOf, send, recompute, hear, deliver, between, linkUp, cut}
+use Rattle.hop_rule.specs.Sound.{Sends, Leads, Sound}
 use Rattle.hop_laws.proofs.Tests.{Tells, tells-eq, tells-and, tells-or, tells-not, tells-same, tells-as, tells-not-so, choose-so, choose-else}
 use Rattle.hop_laws.proofs.Words.{first-passes, first-before, first-same}
 
@@ -170,9 +170,9 @@ downstreamOf-is s u v d x f e l g =
     let h = downstreamOf-gives s u v d f e l in
     omega (arith, h .lowest x (g .below) (g .linked) (g .gives), g .lowest (downstreamOf s u v d) (h .below) (h .linked) (h .gives))
 
-pub downstreamOf-alike : {s t : State} {u v : ℕ} (d : ℕ) → Alike s t u v → d ≤ s .n → downstreamOf t u v d ≡ downstreamOf s u v d
+alike-at : {s t : State} {u v : ℕ} (d : ℕ) → Alike s t u v → d ≤ s .n → downstreamOf t u v d ≡ downstreamOf s u v d
 unfolding downstreamOf
-downstreamOf-alike {s} {t} {u} {v} d a l = go (t .n) (a .n)
+alike-at {s} {t} {u} {v} d a l = go (t .n) (a .n)
   where
     there : (a b : State) → d ≤ a .n → Keeps a b u v → (w : ℕ) → w < a .n → (a .link u w ≡ 1) × (suc (a .view u w v) ≡ d) → (b .link u w ≡ 1) × (suc (b .view u w v) ≡ d)
     there a b la h w lw p = let r = h w lw (p .0) (omega arith) in (r .0, ap suc (r .1) ∙ p .1)
@@ -185,6 +185,9 @@ downstreamOf-alike {s} {t} {u} {v} d a l = go (t .n) (a .n)
 
     go : (m : ℕ) → m ≡ s .n → cond (eqb u v) u (cond (eqb d m) 255 (first m (gives t u v d))) ≡ cond (eqb u v) u (cond (eqb d (s .n)) 255 (first (s .n) (gives s u v d)))
     go m i = rw (i, first-same (s .n) _ _ same)
+
+pub downstreamOf-alike : {s t : State} {u v : ℕ} → Alike s t u v → downstreamOf t u v (distanceOf t u v) ≡ downstreamOf s u v (distanceOf s u v)
+downstreamOf-alike {s} {t} {u} {v} a = ap (downstreamOf t u v) (distanceOf-alike a) ∙ alike-at (distanceOf s u v) a (distanceOf-most s u v)
 
 -- ---- both
 
@@ -209,9 +212,7 @@ module _ {s : State} {u v : ℕ} (c : Current s u v) where
 pub current-alike : {s t : State} {u v : ℕ} → Alike s t u v → t .distance u v ≡ s .distance u v → t .downstream u v ≡ s .downstream u v → Current s u v → Current t u v
 current-alike {s} {t} {u} {v} a i j c = record {
   distance = i ∙ c .distance ∙ sym (distanceOf-alike a);
-  downstream =
-      j ∙ c .downstream ∙ sym (downstreamOf-alike (s .distance u v) a (omega (arith, c .distance, distanceOf-most s u v)))
-      ∙ ap (downstreamOf t u v) (sym i);
+  downstream = j ∙ c .downstream ∙ sym (alike-at (s .distance u v) a (omega (arith, c .distance, distanceOf-most s u v))) ∙ ap (downstreamOf t u v) (sym i);
 }
 
 -- ---- recompute of v at u
@@ -228,10 +229,6 @@ module _ (s : State) (u v : ℕ) where
   unfolding recompute
   recompute-distance-other a c f = choose-else (tells-cell a c) _ _ (λ p. f (p .0) (p .1))
 
-  pub recompute-downstream-at : recompute s u v .downstream u v ≡ downstreamOf s u v (distanceOf s u v)
-  unfolding recompute
-  recompute-downstream-at = choose-so (tells-cell u v) _ _ (refl, refl)
-
   pub recompute-downstream-other : (a c : ℕ) → (a ≡ u → c ≢ v) → recompute s u v .downstream a c ≡ s .downstream a c
   unfolding recompute
   recompute-downstream-other a c f = choose-else (tells-cell a c) _ _ (λ p. f (p .0) (p .1))
@@ -241,20 +238,18 @@ module _ (s : State) (u v : ℕ) where
   unfolding recompute
   recompute-current =
       let a = same-alike s (recompute s u v) u v refl (λ w l. refl) (λ w l. refl) in
-      record {
-        distance = recompute-distance-at ∙ sym (distanceOf-alike a);
-        downstream = recompute-downstream-at ∙ sym (downstreamOf-alike (distanceOf s u v) a (distanceOf-most s u v)) ∙ ap (downstreamOf (recompute s u v) u v) (sym recompute-distance-at);
-      }
+      let d = recompute-distance-at ∙ sym (distanceOf-alike a) in
+      record { distance = d; downstream = choose-so (tells-cell u v) _ _ (refl, refl) ∙ sym (downstreamOf-alike a) ∙ ap (downstreamOf (recompute s u v) u v) (sym d) }
 
-  tells-sent : (a b : ℕ) → Tells (eqb a u && (up s u b && not (eqb (distanceOf s u v) (s .distance u v)))) ((a ≡ u) × ((s .link u b ≡ 1) × (distanceOf s u v ≢ s .distance u v)))
+  tells-sent : (a b : ℕ) → Tells (eqb a u && (sends s u b && not (eqb (distanceOf s u v) (s .distance u v)))) ((a ≡ u) × (Sends s u b × (distanceOf s u v ≢ s .distance u v)))
   tells-sent a b = tells-and (tells-eq a u) (tells-and (tells-eq (s .link u b) 1) (tells-not (tells-eq (distanceOf s u v) (s .distance u v))))
 
-  pub recompute-queue-sent : (b : ℕ) → s .link u b ≡ 1 → distanceOf s u v ≢ s .distance u v
+  pub recompute-queue-sent : (b : ℕ) → Sends s u b → distanceOf s u v ≢ s .distance u v
       → recompute s u v .queue u b ≡ send (record { destination = v; value = distanceOf s u v }) (s .queue u b)
   unfolding recompute
   recompute-queue-sent b q f = choose-so (tells-sent u b) _ _ (refl, (q, f))
 
-  pub recompute-queue-other : (a b : ℕ) → (a ≡ u → s .link u b ≡ 1 → distanceOf s u v ≡ s .distance u v) → recompute s u v .queue a b ≡ s .queue a b
+  pub recompute-queue-other : (a b : ℕ) → (a ≡ u → Sends s u b → distanceOf s u v ≡ s .distance u v) → recompute s u v .queue a b ≡ s .queue a b
   unfolding recompute
   recompute-queue-other a b f = choose-else (tells-sent a b) _ _ (λ p. p .1 .1 (f (p .0) (p .1 .0)))
 

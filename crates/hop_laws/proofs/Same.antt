@@ -7,7 +7,7 @@ use Rattle.hop_rule.specs.declared.Table.{Table}
 use Rattle.hop_rule.specs.declared.Table.the-variants.{Links, Distances, Downstreams, Views, Lengths, Destinations, Values}
 use Rattle.hop_rule.specs.State.{State}
 use Rattle.hop_rule.specs.Stored.{block, stored}
-use Rattle.hop_rule.specs.Sound.{Sound}
+use Rattle.hop_rule.specs.Sound.{Sends, Sound}
 use Rattle.hop_laws.specs.Same.{Same}
 use Rattle.hop_laws.proofs.Rule.{Alike, same-alike, Current, current-alike, sound-current}
 use Rattle.hop_laws.proofs.Queues.{each-as, each-both}
@@ -47,18 +47,18 @@ module _ {s t : State} (e : Same s t) where
     downstreams = λ u v lu lv. current u v lu lv .downstream;
     views = λ u w v lu lw lv. omega (arith, f .view u w v lu lw lv, h .views u w v (in-s lu) (in-s lw) (in-s lv));
     down-views = λ u w v lu lw lv down. f .view u w v lu lw lv ∙ h .down-views u w v (in-s lu) (in-s lw) (in-s lv) (λ k. down (f .link u w lu lw ∙ k)) ∙ e .n;
-    down-queues = λ u w lu lw down. f .queue w u lw lu ∙ h .down-queues u w (in-s lu) (in-s lw) (λ k. down (f .link u w lu lw ∙ k));
+    down-queues = λ u w lu lw down. f .queue w u lw lu ∙ h .down-queues u w (in-s lu) (in-s lw) (λ k. down (f .link w u lw lu ∙ k));
     lengths = λ u w lu lw. rw (f .queue w u lw lu, ← e .n) (h .lengths u w (in-s lu) (in-s lw));
-    differ = λ u w lu lw up. rw (f .queue w u lw lu) (h .differ u w (in-s lu) (in-s lw) (up-s lu lw up));
-    below = λ u w lu lw up.
-        let below = h .below u w (in-s lu) (in-s lw) (up-s lu lw up) in
+    differ = λ u w lu lw sends. rw (f .queue w u lw lu) (h .differ u w (in-s lu) (in-s lw) (sends-s lw lu sends));
+    below = λ u w lu lw sends.
+        let below = h .below u w (in-s lu) (in-s lw) (sends-s lw lu sends) in
         rw (f .queue w u lw lu) (each-as _ _ (s .queue w u) (λ x l. omega arith) below);
-    values = λ u w lu lw up.
-        let below = h .below u w (in-s lu) (in-s lw) (up-s lu lw up) in
-        rw (f .queue w u lw lu) (each-as _ _ (s .queue w u) (λ x p. p .1 ∙ e .distance w (x .destination) (in-s lw) (p .0)) (each-both _ _ (s .queue w u) below (h .values u w (in-s lu) (in-s lw) (up-s lu lw up))));
-    heard = λ u w v lu lw lv up out.
+    values = λ u w lu lw sends.
+        let below = h .below u w (in-s lu) (in-s lw) (sends-s lw lu sends) in
+        rw (f .queue w u lw lu) (each-as _ _ (s .queue w u) (λ x p. p .1 ∙ e .distance w (x .destination) (in-s lw) (p .0)) (each-both _ _ (s .queue w u) below (h .values u w (in-s lu) (in-s lw) (sends-s lw lu sends))));
+    heard = λ u w v lu lw lv sends out.
         f .view u w v lu lw lv
-        ∙ h .heard u w v (in-s lu) (in-s lw) (in-s lv) (up-s lu lw up) (λ k. out (rw (f .queue w u lw lu) k))
+        ∙ h .heard u w v (in-s lu) (in-s lw) (in-s lv) (sends-s lw lu sends) (λ k. out (rw (f .queue w u lw lu) k))
         ∙ e .distance w v (in-s lw) (in-s lv);
   }
     where
@@ -71,8 +71,8 @@ module _ {s t : State} (e : Same s t) where
       current : (u v : ℕ) → u < t .n → v < t .n → Current t u v
       current u v lu lv = current-alike (same-reads u v (in-s lu) (in-s lv)) (f .distance u v lu lv) (f .downstream u v lu lv) (sound-current h u v (in-s lu) (in-s lv))
 
-      up-s : {u w : ℕ} → u < t .n → w < t .n → t .link u w ≡ 1 → s .link u w ≡ 1
-      up-s {u} {w} lu lw up = e .link u w (in-s lu) (in-s lw) ∙ up
+      sends-s : {w u : ℕ} → w < t .n → u < t .n → Sends t w u → Sends s w u
+      sends-s {w} {u} lw lu sends = e .link w u (in-s lw) (in-s lu) ∙ sends
 
   block-same : (k : Table) → block s k ≡ block t k
   unfolding block

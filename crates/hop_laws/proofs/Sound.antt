@@ -9,9 +9,9 @@ use lib.ListN.{length}
 use Rattle.hop_rule.specs.declared.Table.{Table}
 use Rattle.hop_rule.specs.declared.Table.the-variants.{Lengths, Destinations, Values}
 use Rattle.hop_rule.specs.State.{State, Entry}
-use Rattle.hop_rule.specs.Rule.{up, distanceOf, downstreamOf}
+use Rattle.hop_rule.specs.Rule.{up, sends, distanceOf, downstreamOf}
 use Rattle.hop_rule.specs.Stored.{flat, deep, readAs}
-use Rattle.hop_rule.specs.Sound.{Waits, Differ, Each, Leads, Sound, SoundAs, waits, differ, each, leads, pairs, triples, isSound, isSoundAs}
+use Rattle.hop_rule.specs.Sound.{Linked, Sends, Waits, Differ, Each, Leads, Sound, SoundAs, waits, differ, each, leads, pairs, triples, isSound, isSoundAs}
 use Rattle.hop_laws.proofs.Tests.{Tells, tells-true, tells-never, tells-as, tells-eq, tells-le, tells-lt, tells-not, tells-and, tells-or, tells-gives, tells-else, tells-every}
 
 -- ---- queues
@@ -56,8 +56,11 @@ tells-unless {b = false} t r k = tells-as (λ f p. absurd (tells-not t .shows re
 
 -- ---- sound
 
-pub tells-up : (s : State) (u w : ℕ) → Tells (up s u w) (s .link u w ≡ 1)
+pub tells-up : (s : State) (u w : ℕ) → Tells (up s u w) (Linked s u w)
 tells-up s u w = tells-eq (s .link u w) 1
+
+pub tells-sends : (s : State) (w u : ℕ) → Tells (sends s w u) (Sends s w u)
+tells-sends s w u = tells-up s w u
 
 pub tells-leads : (s : State) (u v : ℕ) → Tells (leads s u v) (Leads s u v)
 tells-leads s u v = tells-eq (s .downstream u v) (downstreamOf s u v (s .distance u v))
@@ -105,12 +108,12 @@ sound-tells s = tells-as
     also tells-pairs (s .n) (tells-leads s)
     also tells-triples (s .n) (λ u w v. tells-le (s .view u w v) (s .n))
     also tells-triples (s .n) (λ u w v. tells-else (tells-up s u w) (tells-eq (s .view u w v) (s .n)))
-    also tells-pairs (s .n) (λ u w. tells-else (tells-up s u w) (tells-empty (s .queue w u)))
+    also tells-pairs (s .n) (λ u w. tells-else (tells-sends s w u) (tells-empty (s .queue w u)))
     also tells-pairs (s .n) (λ u w. tells-le (length (s .queue w u)) (s .n))
-    also tells-pairs (s .n) (λ u w. tells-gives (tells-up s u w) (tells-differ (s .queue w u)))
-    also tells-pairs (s .n) (λ u w. tells-gives (tells-up s u w) (tells-each (λ e. tells-lt (e .destination) (s .n)) (s .queue w u)))
-    also tells-pairs (s .n) (λ u w. tells-gives (tells-up s u w) (tells-each (λ e. tells-eq (e .value) (s .distance w (e .destination))) (s .queue w u)))
-    also tells-triples (s .n) (λ u w v. tells-unless (tells-up s u w) (tells-waits v (s .queue w u)) (tells-eq (s .view u w v) (s .distance w v))))
+    also tells-pairs (s .n) (λ u w. tells-gives (tells-sends s w u) (tells-differ (s .queue w u)))
+    also tells-pairs (s .n) (λ u w. tells-gives (tells-sends s w u) (tells-each (λ e. tells-lt (e .destination) (s .n)) (s .queue w u)))
+    also tells-pairs (s .n) (λ u w. tells-gives (tells-sends s w u) (tells-each (λ e. tells-eq (e .value) (s .distance w (e .destination))) (s .queue w u)))
+    also tells-triples (s .n) (λ u w v. tells-unless (tells-sends s w u) (tells-waits v (s .queue w u)) (tells-eq (s .view u w v) (s .distance w v))))
 
 pub sound-bytes-tells : {n : ℕ} (s : List ℕ) → Tells (isSoundAs n s) (SoundAs n s)
 unfolding isSoundAs

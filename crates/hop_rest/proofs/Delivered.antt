@@ -9,11 +9,12 @@ use native.Mathlib.Omega.{arith}
 use lib.ListN.{length, take}
 use Rattle.hop_rule.specs.State.{State, Entry}
 use Rattle.hop_rule.specs.Rule.{send, deliver}
-use Rattle.hop_rule.specs.Sound.{Waits, Each}
+use Rattle.hop_rule.specs.Sound.{Sends, Waits, Each}
 use Rattle.hop_laws.proofs.Tests.{tells-eq, tells-and, decides}
+use Rattle.hop_laws.proofs.Sound.{tells-sends}
 use Rattle.hop_laws.proofs.Queues.{send-length, send-front}
 use Rattle.hop_rest.proofs.Frame.{deliver-n, deliver-link, deliver-view-other, deliver-distance-other, deliver-queue-other, deliver-view-learnt, deliver-queue-left, deliver-queue-sent, deliver-queue-quiet}
-use Rattle.hop_rest.proofs.Kept.{waiting-linked, waiting-below, deliver-keeps-sound}
+use Rattle.hop_rest.proofs.Kept.{waiting-sends, sends-linked, waiting-below, deliver-keeps-sound}
 use Rattle.hop_rest.proofs.Right.{Over}
 
 -- A delivery from w to u takes s to t, over the links of g.
@@ -31,13 +32,13 @@ pub record Delivered (g s : State) (w u : ℕ) (t : State) : Type 0 where
   -- what was recomputed
   pub recomputed : Over g t
   -- what was sent
-  pub sent : t .distance u (head .destination) ≢ s .distance u (head .destination) → (x : ℕ) → x < g .n → g .link u x ≡ 1
+  pub sent : t .distance u (head .destination) ≢ s .distance u (head .destination) → (x : ℕ) → x < g .n → Sends g u x
       → t .queue u x ≡ send (record { destination = head .destination; value = t .distance u (head .destination) }) (s .queue u x)
-  pub quiet : t .distance u (head .destination) ≡ s .distance u (head .destination) → (x : ℕ) → x < g .n → g .link u x ≡ 1 → t .queue u x ≡ s .queue u x
+  pub quiet : t .distance u (head .destination) ≡ s .distance u (head .destination) → (x : ℕ) → x < g .n → Sends g u x → t .queue u x ≡ s .queue u x
   -- what stayed
   pub views : (a b c : ℕ) → a < g .n → b < g .n → c < g .n → (a ≡ u → b ≡ w → c ≢ head .destination) → t .view a b c ≡ s .view a b c
   pub distances : (a c : ℕ) → a < g .n → c < g .n → (a ≡ u → c ≢ head .destination) → t .distance a c ≡ s .distance a c
-  pub queues : (a b : ℕ) → a < g .n → b < g .n → (a ≡ w → b ≢ u) → (a ≡ u → g .link u b ≢ 1) → t .queue a b ≡ s .queue a b
+  pub queues : (a b : ℕ) → a < g .n → b < g .n → (a ≡ w → b ≢ u) → (a ≡ u → Sends g u b → ⊥) → t .queue a b ≡ s .queue a b
 
 -- ---- the rule's delivery from a queue that is not empty
 
@@ -52,7 +53,7 @@ pub deliver-delivered : (g s : State) (w u : ℕ) → Over g s → w < g .n → 
 deliver-delivered g s w u o lw lu e q waited = record {
   sender = lw;
   receiver = lu;
-  linked = sym (o .links u w lu lw) ∙ linked;
+  linked = sym (o .links u w lu lw) ∙ sends-linked w u (o .sound) (omega arith) (omega arith) sends;
   head = e;
   rest = q;
   waited = waited;
@@ -66,14 +67,14 @@ deliver-delivered g s w u o lw lu e q waited = record {
   queues = λ a b la lb f k. deliver-queue-other s w u a b f (λ i l. k i (sym (o .links u b lu lb) ∙ l));
 }
   where
-    linked : s .link u w ≡ 1
-    linked = waiting-linked s w u (o .sound) (omega arith) (omega arith) e q waited
+    sends : Sends s w u
+    sends = waiting-sends s w u (o .sound) (omega arith) (omega arith) e q waited
 
     apart : w ≢ u
-    apart i = omega (arith, subst (λ (x : ℕ). s .link u x ≡ 1) i linked, o .sound .diagonal u (omega arith))
+    apart i = omega (arith, subst (λ (x : ℕ). Sends s x u) i sends, o .sound .diagonal u (omega arith))
 
     value : e .value ≡ s .distance w (e .destination)
-    value = subst (Each (λ f. f .value ≡ s .distance w (f .destination))) waited (o .sound .values u w (omega arith) (omega arith) linked) .0
+    value = subst (Each (λ f. f .value ≡ s .distance w (f .destination))) waited (o .sound .values u w (omega arith) (omega arith) sends) .0
 
 -- ---- what follows from the parts
 
@@ -93,9 +94,9 @@ module _ (g s : State) (w u : ℕ) (t : State) (o : Over g s) (d : Delivered g s
   grown : (a b : ℕ) → a < g .n → b < g .n → (a ≡ w → b ≢ u)
       → (t .queue a b ≡ s .queue a b) ⊎ ((e : Entry) × (t .queue a b ≡ send e (s .queue a b)) × (t .distance u (d .head .destination) ≢ s .distance u (d .head .destination)))
   grown a b la lb f =
-      go (decides (tells-and (tells-eq a u) (tells-eq (g .link u b) 1))) (ℕ-discrete (t .distance u (d .head .destination)) (s .distance u (d .head .destination)))
+      go (decides (tells-and (tells-eq a u) (tells-sends g u b))) (ℕ-discrete (t .distance u (d .head .destination)) (s .distance u (d .head .destination)))
     where
-      go : Dec ((a ≡ u) × (g .link u b ≡ 1)) → Dec (t .distance u (d .head .destination) ≡ s .distance u (d .head .destination))
+      go : Dec ((a ≡ u) × Sends g u b) → Dec (t .distance u (d .head .destination) ≡ s .distance u (d .head .destination))
           → (t .queue a b ≡ s .queue a b) ⊎ ((e : Entry) × (t .queue a b ≡ send e (s .queue a b)) × (t .distance u (d .head .destination) ≢ s .distance u (d .head .destination)))
       go (no k) e = inl (d .queues a b la lb f (λ i j. k (i, j)))
       go (yes p) (yes e) = inl (rw (p .0) (d .quiet e b lb (p .1)))

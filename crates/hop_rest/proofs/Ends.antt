@@ -12,14 +12,14 @@ use borrow.Author.Tests.{leb-false}
 use Rattle.hop_rule.specs.Words.{loop}
 use Rattle.hop_rule.specs.State.{State}
 use Rattle.hop_rule.specs.Rule as rule
-use Rattle.hop_rule.specs.Rule.{distanceOf, downstreamOf, recompute, between, linkUp, cut, recomputeAll, linkDown}
+use Rattle.hop_rule.specs.Rule.{recompute, between, linkUp, cut, recomputeAll, linkDown}
 use Rattle.hop_rule.specs.Stored.{size, stored, nodes, readAs, read}
 use Rattle.hop_rule.specs.Calls.{Call, up, down, Refusal, judge, noNode, oneNode, isUp, isDown, onState, refusals, refused, changed, done, outcome}
 use Rattle.hop_laws.specs.Same.{Same}
 use Rattle.hop_laws.specs.Fine.{Fine}
 use Rattle.hop_laws.proofs.Tests.{tells-eq, tells-as, tells-same}
 use Rattle.hop_laws.proofs.Words.{loop-both, loop-keeps}
-use Rattle.hop_laws.proofs.Rule.{Alike, same-alike, distanceOf-most, distanceOf-alike, downstreamOf-alike, recompute-distance-other, recompute-downstream-other, recompute-queue-other, Between, tells-between}
+use Rattle.hop_laws.proofs.Rule.{Alike, same-alike, distanceOf-alike, downstreamOf-alike, recompute-distance-other, recompute-downstream-other, recompute-queue-other, Between, tells-between}
 use Rattle.hop_laws.proofs.Same.{same-refl, stored-same}
 use Rattle.hop_laws.proofs.Calls.{judge-applies, judge-next, outcome-done, outcome-refused, state-fine, state-refused, state-passed}
 use Rattle.hop_rest.specs.Ends.{EndsAlike}
@@ -77,20 +77,14 @@ unfolding recompute
 recompute-own {s} {t} u v lv e = record {
   n = e .n;
   link = e .link;
-  distance = λ c lc. rw (d, e .distance c lc);
-  downstream = λ c lc. rw (d, x, e .downstream c lc);
+  distance = λ c lc. rw (distanceOf-alike reads, e .distance c lc);
+  downstream = λ c lc. rw (downstreamOf-alike reads, e .downstream c lc);
   view = e .view;
-  queue = λ b lb. rw (d, e .link b lb, e .distance v lv, e .queue b lb);
+  queue = λ b lb. rw (distanceOf-alike reads, e .link b lb, e .distance v lv, e .queue b lb);
 }
   where
     reads : Alike s t u v
     reads = same-alike s t u v (sym (e .n)) (λ w l. sym (e .link w l)) (λ w l. sym (e .view w v l lv))
-
-    d : distanceOf t u v ≡ distanceOf s u v
-    d = distanceOf-alike reads
-
-    x : downstreamOf t u v (distanceOf s u v) ≡ downstreamOf s u v (distanceOf s u v)
-    x = downstreamOf-alike _ reads (distanceOf-most s u v)
 
 -- and no other part changes.
 recompute-other : (s : State) (u v x : ℕ) → x ≢ u → SameAt x (recompute s u v) s

@@ -5,6 +5,7 @@ use mathlib.Core.List.{List, [], _∷_}
 use Prim.Native.Nat.{ℕ}
 use Rattle.hop_rule.specs.State.{State, Entry}
 use Rattle.hop_rule.specs.Rule.{distanceOf, send, recompute, hear, deliver}
+use Rattle.hop_rule.specs.Sound.{Sends}
 use Rattle.hop_laws.proofs.Rule.{recompute-distance-at, recompute-distance-other, recompute-downstream-other, recompute-queue-sent, recompute-queue-other, hear-view-at, hear-view-other, hear-queue-at, hear-queue-other, deliver-head, deliver-none}
 
 -- v is the destination of the entry at the head.
@@ -43,7 +44,7 @@ module _ (s : State) (w u : ℕ) where
   unfolding hear
   deliver-downstream-other a c f = stays (λ t. t .downstream a c) (λ head rest e. recompute-downstream-other (hear s w u head rest) u (head .destination) a c (λ i k. f i (rw e k)))
 
-  pub deliver-queue-other : (a b : ℕ) → (a ≡ w → b ≢ u) → (a ≡ u → s .link u b ≢ 1) → deliver s w u .queue a b ≡ s .queue a b
+  pub deliver-queue-other : (a b : ℕ) → (a ≡ w → b ≢ u) → (a ≡ u → Sends s u b → ⊥) → deliver s w u .queue a b ≡ s .queue a b
   unfolding hear
   deliver-queue-other a b f g = stays (λ t. t .queue a b) (λ head rest e.
       recompute-queue-other (hear s w u head rest) u (head .destination) a b (λ i q. absurd (g i q)) ∙ hear-queue-other s w u head rest a b f)
@@ -64,7 +65,7 @@ module _ (s : State) (w u : ℕ) (head : Entry) (rest : List Entry) (waited : s 
   pub deliver-queue-left : w ≢ u → deliver s w u .queue w u ≡ rest
   deliver-queue-left f = rw is (recompute-queue-other (hear s w u head rest) u (head .destination) w u (λ i. absurd (f i)) ∙ hear-queue-at s w u head rest)
 
-  pub deliver-queue-sent : w ≢ u → (x : ℕ) → s .link u x ≡ 1 → deliver s w u .distance u (head .destination) ≢ s .distance u (head .destination)
+  pub deliver-queue-sent : w ≢ u → (x : ℕ) → Sends s u x → deliver s w u .distance u (head .destination) ≢ s .distance u (head .destination)
       → deliver s w u .queue u x ≡ send (record { destination = head .destination; value = deliver s w u .distance u (head .destination) }) (s .queue u x)
   unfolding hear
   deliver-queue-sent f x q k =

@@ -4,40 +4,44 @@ use mathlib.Core.Logic.{_⊎_, inl, inr, _≢_}
 use mathlib.Core.List.{List, [], _∷_}
 use Prim.Native.Nat.{ℕ, _≤_, _<_}
 use native.Mathlib.Nat.{le-of-eq}
-use native.Mathlib.Decide.{ℕ-discrete}
 use native.Mathlib.Omega.{arith}
 use lib.ListN.{length}
 use Rattle.hop_rule.specs.State.{State, Entry}
 use Rattle.hop_rule.specs.Rule.{distanceOf, recompute, hear, deliver, linkUp, cut, recomputeAll, linkDown, pass, passes}
-use Rattle.hop_rule.specs.Sound.{Each, Sound}
+use Rattle.hop_rule.specs.Sound.{Linked, Sends, Each, Sound}
 use Rattle.hop_laws.proofs.Tests.{tells-eq, tells-and, decides}
 use Rattle.hop_laws.proofs.Words.{loop-keeps}
 use Rattle.hop_laws.proofs.Rule.{Alike, same-alike, distanceOf-most, sound-current, current-alike, hear-view-at, hear-view-other, hear-queue-at, hear-queue-other, deliver-head, deliver-none, Between, tells-between, between-back, up-link-at, up-link-other, up-queue-at, up-queue-other, cut-link-at, cut-link-other, cut-view-at, cut-view-other, cut-queue-at, cut-queue-other}
+use Rattle.hop_laws.proofs.Sound.{tells-sends}
 use Rattle.hop_rest.proofs.Frame.{deliver-n}
 use Rattle.hop_rest.proofs.Mended.{Brings, Steady, SoundBut, sound-steady, but-sound, brings-same, brings-hear, brings-all, recompute-mends, recompute-all-mends, recompute-all-n}
 
 -- ---- deliver
 
 -- Entries wait on up links only.
-pub waiting-linked : (s : State) (w u : ℕ) → Sound s → w < s .n → u < s .n → (head : Entry) (rest : List Entry) → s .queue w u ≡ head ∷ rest → s .link u w ≡ 1
-waiting-linked s w u o lw lu head rest e = go (ℕ-discrete (s .link u w) 1)
+pub waiting-sends : (s : State) (w u : ℕ) → Sound s → w < s .n → u < s .n → (head : Entry) (rest : List Entry) → s .queue w u ≡ head ∷ rest → Sends s w u
+waiting-sends s w u o lw lu head rest e = go (decides (tells-sends s w u))
   where
-    go : Dec (s .link u w ≡ 1) → s .link u w ≡ 1
+    go : Dec (Sends s w u) → Sends s w u
     go (yes q) = q
     go (no f) = absurd (omega (arith, ap length (sym (o .down-queues u w lu lw f) ∙ e)))
 
+-- Both ends of a link in use are up.
+pub sends-linked : {s : State} (w u : ℕ) → Sound s → w < s .n → u < s .n → Sends s w u → Linked s u w
+sends-linked w u o lw lu q = o .symmetric u w lu lw ∙ q
+
 -- Only destinations below n wait.
 pub waiting-below : (s : State) (w u : ℕ) → Sound s → w < s .n → u < s .n → (head : Entry) (rest : List Entry) → s .queue w u ≡ head ∷ rest → head .destination < s .n
-waiting-below s w u o lw lu head rest e = subst (Each (λ f. f .destination < s .n)) e (o .below u w lu lw (waiting-linked s w u o lw lu head rest e)) .0
+waiting-below s w u o lw lu head rest e = subst (Each (λ f. f .destination < s .n)) e (o .below u w lu lw (waiting-sends s w u o lw lu head rest e)) .0
 
-module _ (s : State) (w u : ℕ) (head : Entry) (rest : List Entry) (o : Sound s) (lw : w < s .n) (lu : u < s .n) (linked : s .link u w ≡ 1) (waits : s .queue w u ≡ head ∷ rest) where
+module _ (s : State) (w u : ℕ) (head : Entry) (rest : List Entry) (o : Sound s) (lw : w < s .n) (lu : u < s .n) (sends : Sends s w u) (waits : s .queue w u ≡ head ∷ rest) where
   c : Steady s
   c = sound-steady o
 
   first : Brings (s .n) (s .distance w) (s .view u w) (head ∷ rest)
-  first = subst (Brings (s .n) (s .distance w) (s .view u w)) waits (c .brings u w lu lw linked)
+  first = subst (Brings (s .n) (s .distance w) (s .view u w)) waits (c .brings u w lu lw sends)
 
-  heard-brings : (x y : ℕ) → x < s .n → y < s .n → s .link x y ≡ 1 → Brings (s .n) (s .distance y) (hear s w u head rest .view x y) (hear s w u head rest .queue y x)
+  heard-brings : (x y : ℕ) → x < s .n → y < s .n → Sends s y x → Brings (s .n) (s .distance y) (hear s w u head rest .view x y) (hear s w u head rest .queue y x)
   heard-brings x y lx ly q = go (decides (tells-and (tells-eq y w) (tells-eq x u)))
     where
       go : Dec ((y ≡ w) × (x ≡ u)) → Brings (s .n) (s .distance y) (hear s w u head rest .view x y) (hear s w u head rest .queue y x)
@@ -58,7 +62,7 @@ module _ (s : State) (w u : ℕ) (head : Entry) (rest : List Entry) (o : Sound s
       diagonal = c .diagonal;
       views = λ x y v lx ly lv. low x y v lx ly lv (decides (tells-and (tells-eq x u) (tells-and (tells-eq y w) (tells-eq v (head .destination)))));
       down-views = λ x y v lx ly lv f. hear-view-other s w u head rest x y v (λ i j. absurd (f (is-linked x y i j))) ∙ c .down-views x y v lx ly lv f;
-      down-queues = λ x y lx ly f. hear-queue-other s w u head rest y x (λ j i. f (is-linked x y i j)) ∙ c .down-queues x y lx ly f;
+      down-queues = λ x y lx ly f. hear-queue-other s w u head rest y x (λ j i. f (rw (i, j) sends)) ∙ c .down-queues x y lx ly f;
       brings = heard-brings;
     };
     current = λ a b la lb f. current-alike (same a b f) refl refl (sound-current o a b la lb);
@@ -70,8 +74,8 @@ module _ (s : State) (w u : ℕ) (head : Entry) (rest : List Entry) (o : Sound s
           rw (p .0, p .1 .0, p .1 .1, hear-view-at s w u head rest, e) (distanceOf-most s w (head .destination))
       low x y v lx ly lv (no f) = rw (hear-view-other s w u head rest x y v (λ i j k. f (i, (j, k)))) (o .views x y v lx ly lv)
 
-      is-linked : (x y : ℕ) → x ≡ u → y ≡ w → s .link x y ≡ 1
-      is-linked x y i j = rw (i, j) linked
+      is-linked : (x y : ℕ) → x ≡ u → y ≡ w → Linked s x y
+      is-linked x y i j = rw (i, j) (sends-linked w u o lw lu sends)
 
       same : (a b : ℕ) → ((a ≡ u) × (b ≡ head .destination) → ⊥) → Alike s (hear s w u head rest) a b
       same a b f = same-alike s (hear s w u head rest) a b refl (λ y l. refl) (λ y l. hear-view-other s w u head rest a y b (λ i j k. f (i, k)))
@@ -85,7 +89,7 @@ deliver-keeps-sound s w u o lw lu = go (s .queue w u) refl
   where
     go : (q : List Entry) → s .queue w u ≡ q → Sound (deliver s w u)
     go [] e = subst Sound (sym (deliver-none s w u e)) o
-    go (head ∷ rest) e = subst Sound (sym (deliver-head s w u head rest e)) (mended s w u head rest o lw lu (waiting-linked s w u o lw lu head rest e) e)
+    go (head ∷ rest) e = subst Sound (sym (deliver-head s w u head rest e)) (mended s w u head rest o lw lu (waiting-sends s w u o lw lu head rest e) e)
 
 -- ---- link down
 
@@ -94,10 +98,10 @@ module _ (s : State) (a b : ℕ) (o : Sound s) where
   cut-symmetric x y lx ly (yes h) = cut-link-at s a b x y h ∙ sym (cut-link-at s a b y x (between-back h))
   cut-symmetric x y lx ly (no f) = cut-link-other s a b x y f ∙ o .symmetric x y lx ly ∙ sym (cut-link-other s a b y x (λ h. f (between-back h)))
 
-  cut-brings : (x y : ℕ) → x < s .n → y < s .n → cut s a b .link x y ≡ 1 → (Between a b x y → ⊥) → Brings (s .n) (s .distance y) (cut s a b .view x y) (cut s a b .queue y x)
+  cut-brings : (x y : ℕ) → x < s .n → y < s .n → Sends (cut s a b) y x → (Between a b y x → ⊥) → Brings (s .n) (s .distance y) (cut s a b .view x y) (cut s a b .queue y x)
   cut-brings x y lx ly q f =
-      rw (cut-queue-other s a b y x (λ h. f (between-back h)))
-      (brings-same _ _ _ _ _ _ (λ v l. refl) (λ v l. cut-view-other s a b x y v f) (sound-steady o .brings x y lx ly (sym (cut-link-other s a b x y f) ∙ q)))
+      rw (cut-queue-other s a b y x f)
+      (brings-same _ _ _ _ _ _ (λ v l. refl) (λ v l. cut-view-other s a b x y v (λ h. f (between-back h))) (sound-steady o .brings x y lx ly (sym (cut-link-other s a b y x f) ∙ q)))
 
   -- Each end's pairs may be stale.
   cut-stale : SoundBut (λ x v. (x ≡ a) ⊎ (x ≡ b)) (cut s a b)
@@ -109,8 +113,8 @@ module _ (s : State) (a b : ℕ) (o : Sound s) where
       diagonal = λ x lx. down x lx (decides (tells-between a b x x));
       views = λ x y v lx ly lv. view x y v lx ly lv (decides (tells-between a b x y));
       down-views = λ x y v lx ly lv f. down-view x y v lx ly lv f (decides (tells-between a b x y));
-      down-queues = λ x y lx ly f. down-queue x y lx ly f (decides (tells-between a b x y));
-      brings = λ x y lx ly q. cut-brings x y lx ly q (λ h. omega (arith, cut-link-at s a b x y h));
+      down-queues = λ x y lx ly f. down-queue x y lx ly f (decides (tells-between a b y x));
+      brings = λ x y lx ly q. cut-brings x y lx ly q (λ h. omega (arith, cut-link-at s a b y x h));
     };
     current = λ x v lx lv f. current-alike (same x v f) refl refl (sound-current o x v lx lv);
   }
@@ -131,9 +135,9 @@ module _ (s : State) (a b : ℕ) (o : Sound s) where
       down-view x y v lx ly lv k (yes h) = cut-view-at s a b x y v h
       down-view x y v lx ly lv k (no f) = cut-view-other s a b x y v f ∙ o .down-views x y v lx ly lv (λ q. k (cut-link-other s a b x y f ∙ q))
 
-      down-queue : (x y : ℕ) → x < s .n → y < s .n → cut s a b .link x y ≢ 1 → Dec (Between a b x y) → cut s a b .queue y x ≡ []
-      down-queue x y lx ly k (yes h) = cut-queue-at s a b y x (between-back h)
-      down-queue x y lx ly k (no f) = cut-queue-other s a b y x (λ h. f (between-back h)) ∙ o .down-queues x y lx ly (λ q. k (cut-link-other s a b x y f ∙ q))
+      down-queue : (x y : ℕ) → x < s .n → y < s .n → (Sends (cut s a b) y x → ⊥) → Dec (Between a b y x) → cut s a b .queue y x ≡ []
+      down-queue x y lx ly k (yes h) = cut-queue-at s a b y x h
+      down-queue x y lx ly k (no f) = cut-queue-other s a b y x f ∙ o .down-queues x y lx ly (λ q. k (cut-link-other s a b y x f ∙ q))
 
       same : (x v : ℕ) → ((x ≡ a) ⊎ (x ≡ b) → ⊥) → Alike s (cut s a b) x v
       same x v f = same-alike s (cut s a b) x v refl (λ y l. cut-link-other s a b x y (away y)) (λ y l. cut-view-other s a b x y v (away y))
@@ -160,9 +164,9 @@ module _ (s : State) (a b : ℕ) (o : Sound s) (la : a < s .n) (lb : b < s .n) (
   up-symmetric x y lx ly (yes h) = up-link-at s a b x y h ∙ sym (up-link-at s a b y x (between-back h))
   up-symmetric x y lx ly (no f) = up-link-other s a b x y f ∙ o .symmetric x y lx ly ∙ sym (up-link-other s a b y x (λ h. f (between-back h)))
 
-  up-brings : (x y : ℕ) → x < s .n → y < s .n → linkUp s a b .link x y ≡ 1 → Dec (Between a b x y) → Brings (s .n) (s .distance y) (s .view x y) (linkUp s a b .queue y x)
-  up-brings x y lx ly q (yes h) = rw (up-queue-at s a b y x (between-back h)) (brings-all (s .n) (s .distance y) (s .view x y))
-  up-brings x y lx ly q (no f) = rw (up-queue-other s a b y x (λ h. f (between-back h))) (sound-steady o .brings x y lx ly (sym (up-link-other s a b x y f) ∙ q))
+  up-brings : (x y : ℕ) → x < s .n → y < s .n → Sends (linkUp s a b) y x → Dec (Between a b y x) → Brings (s .n) (s .distance y) (s .view x y) (linkUp s a b .queue y x)
+  up-brings x y lx ly q (yes h) = rw (up-queue-at s a b y x h) (brings-all (s .n) (s .distance y) (s .view x y))
+  up-brings x y lx ly q (no f) = rw (up-queue-other s a b y x f) (sound-steady o .brings x y lx ly (sym (up-link-other s a b y x f) ∙ q))
 
   -- The views on it are n, so that recompute finds what it found.
   up-alike : (x v : ℕ) → x < s .n → v < s .n → Alike s (linkUp s a b) x v
@@ -190,8 +194,8 @@ module _ (s : State) (a b : ℕ) (o : Sound s) (la : a < s .n) (lb : b < s .n) (
       diagonal = λ x lx. up-link-other s a b x x (λ h. elim h [ inl p ↦ apart (sym (p .0) ∙ p .1) | inr p ↦ apart (sym (p .1) ∙ p .0) ]) ∙ o .diagonal x lx;
       views = o .views;
       down-views = λ x y v lx ly lv k. o .down-views x y v lx ly lv (λ q. k (up-link-other s a b x y (off x y k) ∙ q));
-      down-queues = λ x y lx ly k. up-queue-other s a b y x (λ h. off x y k (between-back h)) ∙ o .down-queues x y lx ly (λ q. k (up-link-other s a b x y (off x y k) ∙ q));
-      brings = λ x y lx ly q. up-brings x y lx ly q (decides (tells-between a b x y));
+      down-queues = λ x y lx ly k. up-queue-other s a b y x (off y x k) ∙ o .down-queues x y lx ly (λ q. k (up-link-other s a b y x (off y x k) ∙ q));
+      brings = λ x y lx ly q. up-brings x y lx ly q (decides (tells-between a b y x));
     };
     current = λ x v lx lv f. current-alike (up-alike x v lx lv) refl refl (sound-current o x v lx lv);
   })

@@ -10,14 +10,15 @@ use lib.ListN.{length}
 use Rattle.hop_rule.specs.Words.{loop, listed}
 use Rattle.hop_rule.specs.State.{State, Entry}
 use Rattle.hop_rule.specs.Rule.{distanceOf, send, recompute, recomputeAll}
-use Rattle.hop_rule.specs.Sound.{Waits, Differ, Each, Sound}
+use Rattle.hop_rule.specs.Sound.{Linked, Sends, Waits, Differ, Each, Sound}
 use Rattle.hop_laws.proofs.Tests.{tells-eq, tells-and, decides}
 use Rattle.hop_laws.proofs.Rule.{same-alike, Current, current-alike, recompute-distance-at, recompute-distance-other, recompute-downstream-other, recompute-current, recompute-queue-sent, recompute-queue-other}
+use Rattle.hop_laws.proofs.Sound.{tells-sends}
 use Rattle.hop_laws.proofs.Queues.{each-as, each-both, send-sends, send-keeps, send-differ, send-each, listed-each, listed-waits, listed-differ, differ-most}
 
 -- ---- a queue and its two ends
 
--- What an up link's queue is sound by: the sender's distances, the receiver's views of what they were, and the entries between them.
+-- What a queue in use is sound by: the sender's distances, the receiver's views of what they were, and the entries between them.
 pub record Brings (n : ℕ) (distance view : ℕ → ℕ) (q : List Entry) : Type 0 where
   pub differ : Differ q
   pub entries : Each (λ e. (e .destination < n) × (e .value ≡ distance (e .destination))) q
@@ -70,9 +71,9 @@ pub record Steady (s : State) : Type 0 where
   pub symmetric : (u w : ℕ) → u < s .n → w < s .n → s .link u w ≡ s .link w u
   pub diagonal : (u : ℕ) → u < s .n → s .link u u ≡ 0
   pub views : (u w v : ℕ) → u < s .n → w < s .n → v < s .n → s .view u w v ≤ s .n
-  pub down-views : (u w v : ℕ) → u < s .n → w < s .n → v < s .n → s .link u w ≢ 1 → s .view u w v ≡ s .n
-  pub down-queues : (u w : ℕ) → u < s .n → w < s .n → s .link u w ≢ 1 → s .queue w u ≡ []
-  pub brings : (u w : ℕ) → u < s .n → w < s .n → s .link u w ≡ 1 → Brings (s .n) (s .distance w) (s .view u w) (s .queue w u)
+  pub down-views : (u w v : ℕ) → u < s .n → w < s .n → v < s .n → (Linked s u w → ⊥) → s .view u w v ≡ s .n
+  pub down-queues : (u w : ℕ) → u < s .n → w < s .n → (Sends s w u → ⊥) → s .queue w u ≡ []
+  pub brings : (u w : ℕ) → u < s .n → w < s .n → Sends s w u → Brings (s .n) (s .distance w) (s .view u w) (s .queue w u)
 
 -- Sound, but that the pairs of P may be stale.
 pub record SoundBut (P : ℕ → ℕ → Type 0) (s : State) : Type 0 where
@@ -105,7 +106,7 @@ but-sound P s none o = record {
   views = c .views;
   down-views = c .down-views;
   down-queues = c .down-queues;
-  lengths = λ u w lu lw. short u w lu lw (ℕ-discrete (s .link u w) 1);
+  lengths = λ u w lu lw. short u w lu lw (decides (tells-sends s w u));
   differ = λ u w lu lw q. c .brings u w lu lw q .differ;
   below = below;
   values = λ u w lu lw q. each-as _ _ (s .queue w u) (λ e p. p .1) (c .brings u w lu lw q .entries);
@@ -115,10 +116,10 @@ but-sound P s none o = record {
     c : Steady s
     c = o .steady
 
-    below : (u w : ℕ) → u < s .n → w < s .n → s .link u w ≡ 1 → Each (λ e. e .destination < s .n) (s .queue w u)
+    below : (u w : ℕ) → u < s .n → w < s .n → Sends s w u → Each (λ e. e .destination < s .n) (s .queue w u)
     below u w lu lw q = each-as _ _ (s .queue w u) (λ e p. p .0) (c .brings u w lu lw q .entries)
 
-    short : (u w : ℕ) → u < s .n → w < s .n → Dec (s .link u w ≡ 1) → length (s .queue w u) ≤ s .n
+    short : (u w : ℕ) → u < s .n → w < s .n → Dec (Sends s w u) → length (s .queue w u) ≤ s .n
     short u w lu lw (yes q) = differ-most (s .n) (s .queue w u) (c .brings u w lu lw q .differ) (below u w lu lw q)
     short u w lu lw (no f) = rw (c .down-queues u w lu lw f) (omega arith)
 
@@ -136,8 +137,8 @@ module _ (P : ℕ → ℕ → Type 0) (s : State) (u v : ℕ) (lu : u < s .n) (l
       go (yes p) = rw (p .0, p .1) (recompute-distance-at s u v ∙ f (p .0))
       go (no k) = recompute-distance-other s u v a b (λ i j. k (i, j))
 
-  -- A queue of an up link: u sent on it, or its sender's distances stay.
-  mended-brings : (x y : ℕ) → x < s .n → y < s .n → s .link x y ≡ 1 → Brings (s .n) (recompute s u v .distance y) (s .view x y) (recompute s u v .queue y x)
+  -- A queue in use: u sent on it, or its sender's distances stay.
+  mended-brings : (x y : ℕ) → x < s .n → y < s .n → Sends s y x → Brings (s .n) (recompute s u v .distance y) (s .view x y) (recompute s u v .queue y x)
   mended-brings x y lx ly q = go (ℕ-discrete y u) (ℕ-discrete (distanceOf s u v) (s .distance u v))
     where
       kept : (y ≡ u → distanceOf s u v ≡ s .distance u v) → Brings (s .n) (recompute s u v .distance y) (s .view x y) (recompute s u v .queue y x)
@@ -145,8 +146,8 @@ module _ (P : ℕ → ℕ → Type 0) (s : State) (u v : ℕ) (lu : u < s .n) (l
 
       go : Dec (y ≡ u) → Dec (distanceOf s u v ≡ s .distance u v) → Brings (s .n) (recompute s u v .distance y) (s .view x y) (recompute s u v .queue y x)
       go (yes i) (no f) =
-          let r : s .link x u ≡ 1 = rw i at q in
-          rw (i, recompute-queue-sent s u v x (c .symmetric u x lu lx ∙ r) f)
+          let r : Sends s u x = rw i at q in
+          rw (i, recompute-queue-sent s u v x r f)
           (brings-send _ _ _ _ (record { destination = v; value = distanceOf s u v }) _ lv (sym (recompute-distance-at s u v)) (λ b k. recompute-distance-other s u v u b (λ j. k)) (c .brings x u lx lu r))
       go (yes i) (yes e) = kept (λ z. e)
       go (no i) e = kept (λ z. absurd (i z))
@@ -160,7 +161,7 @@ module _ (P : ℕ → ℕ → Type 0) (s : State) (u v : ℕ) (lu : u < s .n) (l
       diagonal = c .diagonal;
       views = c .views;
       down-views = c .down-views;
-      down-queues = λ x y lx ly f. recompute-queue-other s u v y x (λ i q. absurd (f (c .symmetric x y lx ly ∙ ap (λ (z : ℕ). s .link z x) i ∙ q))) ∙ c .down-queues x y lx ly f;
+      down-queues = λ x y lx ly f. recompute-queue-other s u v y x (λ i q. absurd (f (rw i q))) ∙ c .down-queues x y lx ly f;
       brings = mended-brings;
     };
     current = λ a b la lb f. mended a b la lb f (decides (tells-and (tells-eq a u) (tells-eq b v)));

@@ -61,7 +61,7 @@ module _ (g s : State) (o : Over g s) where
   distance-under u w v lu lw lv f q = rw (distance-least u v lu lv f) (least-under s u v (s .n) w (omega arith) (o .links u w lu lw ∙ q))
 
   pub view-heard : (u w v : ℕ) → u < g .n → w < g .n → v < g .n → g .link u w ≡ 1 → (Waits v (s .queue w u) → ⊥) → s .view u w v ≡ s .distance w v
-  view-heard u w v lu lw lv q f = o .sound .heard u w v (omega arith) (omega arith) (omega arith) (o .links u w lu lw ∙ q) f
+  view-heard u w v lu lw lv q f = o .sound .heard u w v (omega arith) (omega arith) (omega arith) (o .sound .symmetric w u (omega arith) (omega arith) ∙ o .links u w lu lw ∙ q) f
 
   -- ---- the step
 

@@ -7,11 +7,11 @@ use lib.Dec.{eqb}
 use lib.ListN.{length}
 use Rattle.hop_rule.specs.Words.{loop, listed}
 use Rattle.hop_rule.specs.State.{State, Entry}
-use Rattle.hop_rule.specs.Rule.{distanceOf, downstreamOf, recompute, hear, deliver, linkUp, cut, recomputeAll, linkDown, pass, total, waitingFor, waitingFrom, reached, passes, made, delivered}
+use Rattle.hop_rule.specs.Rule.{recompute, hear, deliver, linkUp, cut, recomputeAll, linkDown, pass, total, waitingFor, waitingFrom, reached, passes, made, delivered}
 use Rattle.hop_rule.specs.Sound.{Sound}
 use Rattle.hop_laws.specs.Same.{Same}
 use Rattle.hop_laws.proofs.Words.{loop-both, sum-same, listed-same, joined-same, first-same}
-use Rattle.hop_laws.proofs.Rule.{distanceOf-most, distanceOf-alike, downstreamOf-alike, deliver-head, deliver-none}
+use Rattle.hop_laws.proofs.Rule.{Alike, distanceOf-alike, downstreamOf-alike, deliver-head, deliver-none}
 use Rattle.hop_laws.proofs.Same.{same-reads}
 use Rattle.hop_rest.specs.Orders.{Queue, Nodes, deliveries, ascending}
 use Rattle.hop_rest.proofs.Frame.{deliver-n}
@@ -25,17 +25,14 @@ module _ {s t : State} (e : Same s t) where
   recompute-same u v lu lv = record {
     n = e .n;
     link = e .link;
-    distance = λ a c la lc. rw (d, e .distance a c la lc);
-    downstream = λ a c la lc. rw (d, x, e .downstream a c la lc);
+    distance = λ a c la lc. rw (distanceOf-alike reads, e .distance a c la lc);
+    downstream = λ a c la lc. rw (downstreamOf-alike reads, e .downstream a c la lc);
     view = e .view;
-    queue = λ a b la lb. rw (d, e .link u b lu lb, e .distance u v lu lv, e .queue a b la lb);
+    queue = λ a b la lb. rw (distanceOf-alike reads, e .link u b lu lb, e .distance u v lu lv, e .queue a b la lb);
   }
     where
-      d : distanceOf t u v ≡ distanceOf s u v
-      d = distanceOf-alike (same-reads e u v lu lv)
-
-      x : downstreamOf t u v (distanceOf s u v) ≡ downstreamOf s u v (distanceOf s u v)
-      x = downstreamOf-alike _ (same-reads e u v lu lv) (distanceOf-most s u v)
+      reads : Alike s t u v
+      reads = same-reads e u v lu lv
 
   hear-same : (w u : ℕ) (head : Entry) (rest : List Entry) → Same (hear s w u head rest) (hear t w u head rest)
   unfolding hear

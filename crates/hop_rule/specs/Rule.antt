@@ -7,9 +7,13 @@ use lib.ListN.{length}
 use Rattle.hop_rule.specs.Words.{if_then_else_, loop, sum, listed, first}
 use Rattle.hop_rule.specs.State.{State, Entry}
 
--- A link is up at u's end where its byte is exactly 1.
+-- u's end of the link to w is up, where its byte is exactly 1. By its own end a node looks at its views.
 abbrev pub up : State → ℕ → ℕ → Bool
 up s u w = eqb (s .link u w) 1
+
+-- w sends to u: the queue from w to u is in use. It goes by the sender's end.
+abbrev pub sends : State → ℕ → ℕ → Bool
+sends s w u = up s w u
 
 -- 'Recompute', the distance of u to v. If v = u: 0. Otherwise the smaller of n and 1 + the least view of v over u's up links, of which `least` has those to the first k nodes.
 unfoldable pub least : State → ℕ → ℕ → ℕ → ℕ
@@ -44,7 +48,7 @@ recompute s u v =
       distance = λ a c. if eqb a u && eqb c v then d else s .distance a c;
       downstream = λ a c. if eqb a u && eqb c v then x else s .downstream a c;
       view = s .view;
-      queue = λ a b. if eqb a u && (up s u b && changed) then send entry (s .queue a b) else s .queue a b;
+      queue = λ a b. if eqb a u && (sends s u b && changed) then send entry (s .queue a b) else s .queue a b;
     }
 
 -- 'Deliver', its first half: the head entry leaves the queue from w to u, and u's view of its destination from w becomes its value.

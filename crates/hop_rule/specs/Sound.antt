@@ -9,8 +9,16 @@ use lib.ListN.{length}
 use Rattle.hop_rule.specs.declared.Table.the-variants.{Lengths, Destinations, Values}
 use Rattle.hop_rule.specs.Words.{every}
 use Rattle.hop_rule.specs.State.{State, Entry}
-use Rattle.hop_rule.specs.Rule.{up, distanceOf, downstreamOf}
+use Rattle.hop_rule.specs.Rule.{up, sends, distanceOf, downstreamOf}
 use Rattle.hop_rule.specs.Stored.{nodes, flat, deep, readAs}
+
+-- u's end of the link to w is up.
+abbrev pub Linked : State → ℕ → ℕ → Type 0
+Linked s u w = s .link u w ≡ 1
+
+-- w sends to u: the queue from w to u is in use. It goes by the sender's end.
+abbrev pub Sends : State → ℕ → ℕ → Type 0
+Sends s w u = Linked s w u
 
 -- v waits in the queue.
 abbrev pub Waits : ℕ → List Entry → Type 0
@@ -41,18 +49,18 @@ pub record Sound (s : State) : Type 0 where
   pub downstreams : (u v : ℕ) → u < s .n → v < s .n → Leads s u v
   pub views : (u w v : ℕ) → u < s .n → w < s .n → v < s .n → s .view u w v ≤ s .n
   -- on a down link (and for a node with itself, whose link is down) views are n and the queue is empty;
-  pub down-views : (u w v : ℕ) → u < s .n → w < s .n → v < s .n → (s .link u w ≡ 1 → ⊥) → s .view u w v ≡ s .n
-  pub down-queues : (u w : ℕ) → u < s .n → w < s .n → (s .link u w ≡ 1 → ⊥) → s .queue w u ≡ []
+  pub down-views : (u w v : ℕ) → u < s .n → w < s .n → v < s .n → (Linked s u w → ⊥) → s .view u w v ≡ s .n
+  pub down-queues : (u w : ℕ) → u < s .n → w < s .n → (Sends s w u → ⊥) → s .queue w u ≡ []
   -- a queue's length is at most n;
   pub lengths : (u w : ℕ) → u < s .n → w < s .n → length (s .queue w u) ≤ s .n
   -- in a queue of an up link the destinations differ
-  pub differ : (u w : ℕ) → u < s .n → w < s .n → s .link u w ≡ 1 → Differ (s .queue w u)
+  pub differ : (u w : ℕ) → u < s .n → w < s .n → Sends s w u → Differ (s .queue w u)
   -- and are below n,
-  pub below : (u w : ℕ) → u < s .n → w < s .n → s .link u w ≡ 1 → Each (λ e. e .destination < s .n) (s .queue w u)
+  pub below : (u w : ℕ) → u < s .n → w < s .n → Sends s w u → Each (λ e. e .destination < s .n) (s .queue w u)
   -- each value equals the sender's present distance,
-  pub values : (u w : ℕ) → u < s .n → w < s .n → s .link u w ≡ 1 → Each (λ e. e .value ≡ s .distance w (e .destination)) (s .queue w u)
+  pub values : (u w : ℕ) → u < s .n → w < s .n → Sends s w u → Each (λ e. e .value ≡ s .distance w (e .destination)) (s .queue w u)
   -- and a destination that does not wait there has the receiver's view equal to the sender's distance;
-  pub heard : (u w v : ℕ) → u < s .n → w < s .n → v < s .n → s .link u w ≡ 1 → (Waits v (s .queue w u) → ⊥) → s .view u w v ≡ s .distance w v
+  pub heard : (u w v : ℕ) → u < s .n → w < s .n → v < s .n → Sends s w u → (Waits v (s .queue w u) → ⊥) → s .view u w v ≡ s .distance w v
 
 -- Bytes are sound for n nodes if the state that they hold is,
 pub record SoundAs (n : ℕ) (s : List ℕ) : Type 0 where
@@ -98,12 +106,12 @@ isSound s =
     && pairs (s .n) (λ u v. leads s u v)
     && triples (s .n) (λ u w v. leb (s .view u w v) (s .n))
     && triples (s .n) (λ u w v. up s u w || eqb (s .view u w v) (s .n))
-    && pairs (s .n) (λ u w. up s u w || eqb (length (s .queue w u)) 0)
+    && pairs (s .n) (λ u w. sends s w u || eqb (length (s .queue w u)) 0)
     && pairs (s .n) (λ u w. leb (length (s .queue w u)) (s .n))
-    && pairs (s .n) (λ u w. not (up s u w) || differ (s .queue w u))
-    && pairs (s .n) (λ u w. not (up s u w) || each (λ e. ltb (e .destination) (s .n)) (s .queue w u))
-    && pairs (s .n) (λ u w. not (up s u w) || each (λ e. eqb (e .value) (s .distance w (e .destination))) (s .queue w u))
-    && triples (s .n) (λ u w v. not (up s u w) || waits v (s .queue w u) || eqb (s .view u w v) (s .distance w v))
+    && pairs (s .n) (λ u w. not (sends s w u) || differ (s .queue w u))
+    && pairs (s .n) (λ u w. not (sends s w u) || each (λ e. ltb (e .destination) (s .n)) (s .queue w u))
+    && pairs (s .n) (λ u w. not (sends s w u) || each (λ e. eqb (e .value) (s .distance w (e .destination))) (s .queue w u))
+    && triples (s .n) (λ u w v. not (sends s w u) || waits v (s .queue w u) || eqb (s .view u w v) (s .distance w v))
 
 unfoldable pub isSoundAs : ℕ → List ℕ → Bool
 isSoundAs n s =
