@@ -5,7 +5,7 @@ use Prim.Native.Nat.{ℕ}
 use Rattle.hop_rule.specs.Words.{loop, sum, listed, joined, every, first}
 use Rattle.hop_rule.specs.Rule as rule
 use Rattle.hop_rule.specs.Rule.{least, distanceOf, downstreamOf, send, recompute, hear, linkUp, total, fresh}
-use Rattle.hop_rule.specs.Stored.{size, grid, cube, destinationAt, valueAt, block, stored, start, nodes, flat, deep, readAs, read}
+use Rattle.hop_rule.specs.Stored.{size, grid, cube, destinationAt, valueAt, block, stored, start, nodes, flat, deep, readAs}
 use Rattle.hop_rule.specs.Sound.{waits, differ, each, pairs, triples, isSound, isSoundAs}
 use Rattle.hop_rule.specs.Records.{wordAt, kindOf, known, lengthOf, eventAt, readEvent}
 use Rattle.hop_rule.specs.Calls.{judge, refusals, done, outcome}

@@ -8,7 +8,7 @@ use Rattle.hop_rule.specs.declared.Table.{Table}
 use Rattle.hop_rule.specs.declared.Table.the-variants.{Links, Distances, Downstreams, Views, Lengths, Destinations, Values}
 use Rattle.hop_rule.specs.Words.{loop, sum, listed, joined, every, first}
 use Rattle.hop_rule.specs.Rule.{least, distanceOf, downstreamOf, linkUp, fresh}
-use Rattle.hop_rule.specs.Stored.{size, grid, cube, destinationAt, valueAt, block, stored, start, nodes, flat, deep, readAs, read}
+use Rattle.hop_rule.specs.Stored.{size, grid, cube, destinationAt, valueAt, block, stored, start, nodes, flat, deep, readAs}
 use Rattle.hop_rule.specs.Sound.{waits, differ, each, pairs, triples, isSound, isSoundAs}
 use Rattle.hop_rule.specs.Calls.{check, judge, refusals, done, outcome}
 
