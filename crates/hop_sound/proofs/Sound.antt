@@ -50,7 +50,7 @@ module _ (n : ℕ) (s : List ℕ) where
     past-values = λ w u p lw lu lp k. j .sent w u lw lu .past p lp k .1;
   }
     where
-      turned : (u w : ℕ) → u < n → w < n → flat s Links w u ≡ 1 → flat s Links u w ≡ 1
+      turned : (u w : ℕ) → u < n → w < n → flat n s Links w u ≡ 1 → flat n s Links u w ≡ 1
       turned u w lu lw q = j .paired u w lu lw .symmetric ∙ q
 
       current : (u v : ℕ) → u < n → v < n → Current (readAs n s) u v
@@ -82,7 +82,7 @@ module _ (n : ℕ) (s : List ℕ) where
     };
   }
     where
-      turned : (u w : ℕ) → u < n → w < n → flat s Links w u ≡ 1 → flat s Links u w ≡ 1
+      turned : (u w : ℕ) → u < n → w < n → flat n s Links w u ≡ 1 → flat n s Links u w ≡ 1
       turned u w lu lw q = o .state .symmetric u w lu lw ∙ q
 
       most : (u w : ℕ) → u < n → w < n → flat n s Lengths w u ≤ n
