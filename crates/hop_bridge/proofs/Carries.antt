@@ -7,7 +7,7 @@ use Prim.Native.Nat.{ℕ, _<_}
 use lib.Dec.{eqb}
 use lib.ListN.{length}
 use Rattle.hop_rule.specs.declared.Table.the-variants.{Links, Distances, Downstreams, Views, Lengths, Destinations, Values}
-use Rattle.hop_rule.specs.State.{State, Entry}
+use Rattle.hop_rule.specs.State.{State, Entry, withLink, withRoute, withViews, withQueues, withQueue}
 use Rattle.hop_rule.specs.Stored.{destinationAt, valueAt}
 use Rattle.hop_laws.specs.Same.{Same}
 use Rattle.hop_laws.specs.Holds.{flatOf, deepOf}
@@ -16,7 +16,6 @@ use Rattle.hop_cells.specs.Cells.{put2}
 use Rattle.hop_steps.specs.declared.Best.{Best}
 use Rattle.hop_steps.specs.Steps.{store}
 use Rattle.hop_bridge.specs.Carries.{Flats, Deeps, Filled, Tidy, Orderly, Carries}
-use Rattle.hop_bridge.specs.Parts.{withLink, withRoute, withViews, withQueues, withQueue}
 use Rattle.hop_bridge.proofs.Choice.{cond-on}
 use Rattle.hop_bridge.proofs.Filled.{by-flat, by-deep, rowSet, filled-as, filled-put2}
 use Rattle.hop_bridge.proofs.Queued.{Queued}
@@ -76,7 +75,6 @@ module _ {n : ℕ} {r s : List ℕ} {t : State} where
       in-t l = rw (h .orderly .count) l
 
   pub link-carries : Carries n r s t → (u w x : ℕ) → u < n → w < n → Carries n r (put2 n Links u w x s) (withLink t u w x)
-  unfolding withLink
   link-carries h u w x lu lw = carries (record {
     count = h .orderly .count;
     own-distance = h .orderly .own-distance;
@@ -93,7 +91,7 @@ module _ {n : ℕ} {r s : List ℕ} {t : State} where
   })
 
   pub store-carries : Carries n r s t → (u v : ℕ) (b : Best) → u < n → v < n → u ≢ v → Carries n r (store n u v b s) (withRoute t u v (b .distance) (b .downstream))
-  unfolding withRoute store
+  unfolding store
   store-carries h u v b lu lv ne = carries (record {
     count = h .orderly .count;
     own-distance = λ a l. choose-else (tells-and (tells-eq a u) (tells-eq a v)) _ _ (λ e. ne (sym (e .0) ∙ e .1)) ∙ h .orderly .own-distance a l;
@@ -110,7 +108,6 @@ module _ {n : ℕ} {r s : List ℕ} {t : State} where
   })
 
   pub views-carries : Orderly n t → (u w : ℕ) (f : ℕ → ℕ) → Filled n r s (flatOf t) (rowSet (deepOf t) Views u w f) → Carries n r s (withViews t u w f)
-  unfolding withViews
   views-carries o u w f h = carries (record { count = o .count; own-distance = o .own-distance; own-downstream = o .own-downstream; tidy = o .tidy }) h (record {
     link = λ a b la lb. refl;
     distance = λ a b la lb. refl;
@@ -123,7 +120,6 @@ module _ {n : ℕ} {r s : List ℕ} {t : State} where
 
   pub queue-carries : {w u m : ℕ} {f g : ℕ → ℕ} → Orderly n t → (q : List Entry) → Queued n r s (flatOf t) (deepOf t) w u m f g → Tidy n q → m ≡ length q
       → ((c : ℕ) → c < n → f c ≡ destinationAt q c) → ((c : ℕ) → c < n → g c ≡ valueAt q c) → Carries n r s (withQueue t w u q)
-  unfolding withQueue
   queue-carries {w} {u} {m} {f} {g} o q h y l e z = carries (record {
     count = o .count;
     own-distance = o .own-distance;

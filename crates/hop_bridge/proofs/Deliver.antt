@@ -9,12 +9,12 @@ use lib.Dec.{eqb}
 use lib.ListN.{length, getD, drop, length-drop, drop-of-length-le}
 use lib.Seq.{drop-cons}
 use Rattle.hop_rule.specs.Words.{loop}
-use Rattle.hop_rule.specs.State.{State, Entry}
+use Rattle.hop_rule.specs.State.{State, Entry, withQueue}
 use Rattle.hop_rule.specs.Rule as rule
 use Rattle.hop_rule.specs.Stored.{destinationAt, valueAt}
 use Rattle.hop_rule.specs.Sound.{Sound}
 use Rattle.hop_laws.specs.Holds.{blank}
-use Rattle.hop_laws.proofs.Tests.{tells-eq, choose-so, choose-else}
+use Rattle.hop_laws.proofs.Tests.{tells-eq, tells-pair, choose-so, choose-else}
 use Rattle.hop_laws.proofs.Words.{loop-none, loop-idle}
 use Rattle.hop_laws.proofs.Rule.{deliver-none}
 use Rattle.hop_rest.proofs.Frame.{deliver-n, deliver-queue-left}
@@ -22,14 +22,13 @@ use Rattle.hop_rest.proofs.Kept.{deliver-keeps-sound}
 use Rattle.hop_queues.specs.Queues.{takeFirst}
 use Rattle.hop_steps.specs.Steps.{hearAt, hearFirst, drain, deliver}
 use Rattle.hop_bridge.specs.Carries.{Carries, CarriesSound}
-use Rattle.hop_bridge.specs.Parts.{withQueue}
 use Rattle.hop_bridge.proofs.Choice.{cond-idle, cond-twice}
 use Rattle.hop_bridge.proofs.Rows.{loop-reaches}
 use Rattle.hop_bridge.proofs.Queued.{queued, takeFirst-queued}
 use Rattle.hop_bridge.proofs.Carries.{same-queues, carries-same, queue-carries}
 use Rattle.hop_bridge.proofs.Entries.{destinations-moved, values-moved, tidy-short, tidy-drop}
 use Rattle.hop_bridge.proofs.Send.{held-is}
-use Rattle.hop_bridge.proofs.Hear.{tells-there, with-at, with-same, waiting-apart, hearAt-carries}
+use Rattle.hop_bridge.proofs.Hear.{with-at, with-same, waiting-apart, hearAt-carries}
 
 module _ {n : ℕ} {r s : List ℕ} {t : State} (h : Carries n r s t) (w u : ℕ) (lw : w < n) (lu : u < n) where
   takeFirst-carries : (j m : ℕ) → length (t .queue w u) ≡ m + j → Carries n r (takeFirst n w u j m s) (withQueue t w u (drop j (t .queue w u)))
@@ -81,7 +80,7 @@ module _ {n : ℕ} {r s : List ℕ} {t : State} (h : CarriesSound n r s t) (w u 
           }
 
   pub drain-sound : (k : ℕ) → CarriesSound n r (drain n w u k s) (loop k (λ i y. rule.deliver y w u) t)
-  unfolding drain withQueue
+  unfolding drain
   drain-sound k = go (ℕ-discrete k 0)
     where
       m : ℕ
@@ -102,7 +101,7 @@ module _ {n : ℕ} {r s : List ℕ} {t : State} (h : CarriesSound n r s t) (w u 
           let y : State = withQueue (after t w u j) w u q in
           carries-same (takeFirst-carries (some .carries) w u lw lu j (m - j) (rw (with-at w u (after t w u j) q) (omega arith))) (after t w u j)
           (same-queues (after t w u j) _ _ (λ a b la lb. cond-twice (eqb a w && eqb b u) (drop j (y .queue w u)) q (after t w u j .queue a b)
-          ∙ cond-idle (eqb a w && eqb b u) (drop j (y .queue w u)) (after t w u j .queue a b) (λ i. let at = tells-there w u a b .shows i in rw (at .0, at .1, with-at w u (after t w u j) q) (sym (some .left)))))
+          ∙ cond-idle (eqb a w && eqb b u) (drop j (y .queue w u)) (after t w u j .queue a b) (λ i. let at = tells-pair w u a b .shows i in rw (at .0, at .1, with-at w u (after t w u j) q) (sym (some .left)))))
 
       go : Dec (k ≡ 0) → CarriesSound n r (drain n w u k s) (after t w u k)
       go (yes e) = rw (choose-so (tells-eq k 0) s _ e, e, loop-none) h

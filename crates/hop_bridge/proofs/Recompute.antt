@@ -9,7 +9,7 @@ use native.Mathlib.Omega.{arith}
 use lib.Dec.{eqb, ltb}
 use borrow.Author.Tests.{lt-ltb, ne-eqb}
 use Rattle.hop_rule.specs.declared.Table.the-variants.{Links, Distances}
-use Rattle.hop_rule.specs.State.{State, Entry}
+use Rattle.hop_rule.specs.State.{State, Entry, withRoute, withQueue}
 use Rattle.hop_rule.specs.Rule as rule
 use Rattle.hop_rule.specs.Sound.{Sends}
 use Rattle.hop_laws.specs.Same.{Same}
@@ -20,7 +20,7 @@ use Rattle.hop_queues.specs.Queues as bytes
 use Rattle.hop_steps.specs.declared.Best.{Best}
 use Rattle.hop_steps.specs.Steps.{up, store, tellOne, tell, recompute}
 use Rattle.hop_bridge.specs.Carries.{Carries}
-use Rattle.hop_bridge.specs.Parts.{withRoute, withQueue, withSent}
+use Rattle.hop_bridge.specs.Parts.{withSent}
 use Rattle.hop_bridge.proofs.Choice.{cond-idle}
 use Rattle.hop_bridge.proofs.Rows.{loop-reaches}
 use Rattle.hop_bridge.proofs.Carries.{same-queues, carries-same, store-carries}
@@ -50,7 +50,6 @@ module _ (t : State) (u : ℕ) (e : Entry) where
       go (no g) = sent-other k a b g ∙ sym (sent-other (suc k) a b (λ p. g (p .0, (let o : b ≢ k = λ i. f (p .0) i (p .1 .1) in omega (arith, p .1 .0), p .1 .1))))
 
   sent-here : (k a b : ℕ) → Sends t u k → withQueue (withSent t u e k) u k (rule.send e (withSent t u e k .queue u k)) .queue a b ≡ withSent t u e (suc k) .queue a b
-  unfolding withQueue
   sent-here k a b l = go (decides (here k))
     where
       here : (k : ℕ) → Tells (eqb a u && eqb b k) ((a ≡ u) × (b ≡ k))
@@ -67,7 +66,7 @@ module _ {n : ℕ} {r s : List ℕ} {t : State} (h : Carries n r s t) (u v d : �
   entry = record { destination = v; value = d }
 
   tellOne-carries : (k : ℕ) (x : List ℕ) → k < n → Carries n r x (withSent t u entry k) → Carries n r (tellOne n u v d k x) (withSent t u entry (suc k))
-  unfolding tellOne withSent withQueue
+  unfolding tellOne withSent
   tellOne-carries k x lk g = rw (g .filled .flats Links tt u k lu lk) (go (ℕ-discrete (t .link u k) 1))
     where
       go : Dec (t .link u k ≡ 1) → Carries n r (cond (eqb (t .link u k) 1) (bytes.send n u k v d x) x) (withSent t u entry (suc k))
@@ -119,7 +118,7 @@ module _ {n : ℕ} {r s : List ℕ} {t : State} (h : Carries n r s t) (u v : ℕ
 
   -- The distance stays: nothing is sent.
   kept : new .distance ≡ t .distance u v → Same placed (rule.recompute t u v)
-  unfolding rule.recompute withRoute
+  unfolding rule.recompute
   kept e = same-queues placed _ _ (λ a b la lb. sym (recompute-queue-other t u v a b (λ i j. e)))
 
   pub kept-carries : u ≢ v → rule.distanceOf t u v ≡ t .distance u v → Carries n r (store n u v (found t u v) s) (rule.recompute t u v)
@@ -127,7 +126,7 @@ module _ {n : ℕ} {r s : List ℕ} {t : State} (h : Carries n r s t) (u v : ℕ
 
   -- It changes: it is sent on each up link.
   changed : new .distance ≢ t .distance u v → Same (withSent placed u (record { destination = v; value = new .distance }) n) (rule.recompute t u v)
-  unfolding rule.recompute withRoute withSent
+  unfolding rule.recompute withSent
   changed f = same-queues placed _ _ (λ a b la lb. let l : ltb b n ≡ true = lt-ltb b n (rw (h .orderly .count) at lb) in rw (l, ne-eqb (new .distance) (t .distance u v) f, and-true (rule.sends t u b)))
     where
       and-true : (b : Bool) → (b && true) ≡ b
@@ -135,7 +134,6 @@ module _ {n : ℕ} {r s : List ℕ} {t : State} (h : Carries n r s t) (u v : ℕ
       and-true false = refl
 
   pub changed-carries : u ≢ v → rule.distanceOf t u v ≢ t .distance u v → Carries n r (tell n u v (rule.distanceOf t u v) (store n u v (found t u v) s)) (rule.recompute t u v)
-  unfolding withRoute
   changed-carries f e = carries-same (tell-carries (store-carries h u v (found t u v) lu lv f) u v (new .distance) lu lv) (rule.recompute t u v) (changed e)
 
   pub recompute-carries : Carries n r (recompute n u v s) (rule.recompute t u v)

@@ -9,7 +9,7 @@ use lib.Dec.{eqb, ltb}
 use lib.ListN.{length, getD, set, length-set, length-append}
 use borrow.Author.Tests.{eqb-true, eqb-false}
 use Rattle.hop_rule.specs.declared.Table.the-variants.{Lengths, Destinations, Values}
-use Rattle.hop_rule.specs.State.{State, Entry}
+use Rattle.hop_rule.specs.State.{State, Entry, withQueue}
 use Rattle.hop_rule.specs.Rule as rule
 use Rattle.hop_rule.specs.Stored.{destinationAt}
 use Rattle.hop_rule.specs.Sound.{Waits}
@@ -20,7 +20,6 @@ use Rattle.hop_laws.proofs.Read.{destinationAt-getD}
 use Rattle.hop_cells.specs.Cells.{get3, put3}
 use Rattle.hop_queues.specs.Queues.{held, firstAt, waitsAt, join, send}
 use Rattle.hop_bridge.specs.Carries.{Tidy, Carries}
-use Rattle.hop_bridge.specs.Parts.{withQueue}
 use Rattle.hop_bridge.proofs.Choice.{cond-idle}
 use Rattle.hop_bridge.proofs.Queued.{queued, put-value, join-queued}
 use Rattle.hop_bridge.proofs.Carries.{queue-carries}

@@ -1,7 +1,7 @@
 -- Laws of the rule's parts: what recompute finds, what it reads, and which cells each move changes. Distances come first and know nothing of downstreams. Assumes nothing.
 use mathlib.Core.Path.{_≡_, refl, sym, ap, subst, _∙_}
 use mathlib.Core.Logic.{_⊎_, inl, inr, _≢_}
-use mathlib.Core.Bool.{Bool, not, cond, _&&_}
+use mathlib.Core.Bool.{Bool, not, cond, _&&_, _||_}
 use mathlib.Core.List.{List, [], _∷_}
 use Prim.Native.Nat.{ℕ, zero, suc, min, _≤_, _<_}
 use native.Mathlib.Nat.{le-refl}
@@ -10,9 +10,10 @@ use native.Mathlib.Omega.{arith}
 use lib.Dec.{eqb}
 use Rattle.hop_rule.specs.Words.{listed, first}
 use Rattle.hop_rule.specs.State.{State, Entry}
-use Rattle.hop_rule.specs.Rule.{up, sends, least, distanceOf, gives, downstreamOf, send, recompute, hear, deliver, between, linkUp, cut}
+use Rattle.hop_rule.specs.Rule.{up, sends, least, distanceOf, gives, downstreamOf, send, recompute, hear, deliver, linkUp, cut}
 use Rattle.hop_rule.specs.Sound.{Sends, Leads, Sound}
-use Rattle.hop_laws.proofs.Tests.{Tells, tells-eq, tells-and, tells-or, tells-not, tells-same, tells-as, tells-not-so, choose-so, choose-else}
+use Rattle.hop_laws.proofs.Tests.{Tells, decides, tells-eq, tells-pair, tells-and, tells-or, tells-not, tells-same, tells-as, tells-not-so, choose-so, choose-else}
+use Rattle.hop_laws.proofs.Sound.{tells-sends}
 use Rattle.hop_laws.proofs.Words.{first-passes, first-before, first-same}
 
 -- ---- the distance
@@ -218,20 +219,17 @@ current-alike {s} {t} {u} {v} a i j c = record {
 -- ---- recompute of v at u
 
 module _ (s : State) (u v : ℕ) where
-  tells-cell : (a c : ℕ) → Tells (eqb a u && eqb c v) ((a ≡ u) × (c ≡ v))
-  tells-cell a c = tells-and (tells-eq a u) (tells-eq c v)
-
   pub recompute-distance-at : recompute s u v .distance u v ≡ distanceOf s u v
   unfolding recompute
-  recompute-distance-at = choose-so (tells-cell u v) _ _ (refl, refl)
+  recompute-distance-at = choose-so (tells-pair u v u v) _ _ (refl, refl)
 
   pub recompute-distance-other : (a c : ℕ) → (a ≡ u → c ≢ v) → recompute s u v .distance a c ≡ s .distance a c
   unfolding recompute
-  recompute-distance-other a c f = choose-else (tells-cell a c) _ _ (λ p. f (p .0) (p .1))
+  recompute-distance-other a c f = choose-else (tells-pair u v a c) _ _ (λ p. f (p .0) (p .1))
 
   pub recompute-downstream-other : (a c : ℕ) → (a ≡ u → c ≢ v) → recompute s u v .downstream a c ≡ s .downstream a c
   unfolding recompute
-  recompute-downstream-other a c f = choose-else (tells-cell a c) _ _ (λ p. f (p .0) (p .1))
+  recompute-downstream-other a c f = choose-else (tells-pair u v a c) _ _ (λ p. f (p .0) (p .1))
 
   -- The cell is current then.
   pub recompute-current : Current (recompute s u v) u v
@@ -239,10 +237,10 @@ module _ (s : State) (u v : ℕ) where
   recompute-current =
       let a = same-alike s (recompute s u v) u v refl (λ w l. refl) (λ w l. refl) in
       let d = recompute-distance-at ∙ sym (distanceOf-alike a) in
-      record { distance = d; downstream = choose-so (tells-cell u v) _ _ (refl, refl) ∙ sym (downstreamOf-alike a) ∙ ap (downstreamOf (recompute s u v) u v) (sym d) }
+      record { distance = d; downstream = choose-so (tells-pair u v u v) _ _ (refl, refl) ∙ sym (downstreamOf-alike a) ∙ ap (downstreamOf (recompute s u v) u v) (sym d) }
 
   tells-sent : (a b : ℕ) → Tells (eqb a u && (sends s u b && not (eqb (distanceOf s u v) (s .distance u v)))) ((a ≡ u) × (Sends s u b × (distanceOf s u v ≢ s .distance u v)))
-  tells-sent a b = tells-and (tells-eq a u) (tells-and (tells-eq (s .link u b) 1) (tells-not (tells-eq (distanceOf s u v) (s .distance u v))))
+  tells-sent a b = tells-and (tells-eq a u) (tells-and (tells-sends s u b) (tells-not (tells-eq (distanceOf s u v) (s .distance u v))))
 
   pub recompute-queue-sent : (b : ℕ) → Sends s u b → distanceOf s u v ≢ s .distance u v
       → recompute s u v .queue u b ≡ send (record { destination = v; value = distanceOf s u v }) (s .queue u b)
@@ -258,19 +256,23 @@ module _ (s : State) (u v : ℕ) where
 module _ (s : State) (w u : ℕ) (head : Entry) (rest : List Entry) where
   pub hear-view-at : hear s w u head rest .view u w (head .destination) ≡ head .value
   unfolding hear
-  hear-view-at = choose-so (tells-and (tells-eq u u) (tells-and (tells-eq w w) (tells-eq (head .destination) (head .destination)))) _ _ (refl, (refl, refl))
+  hear-view-at = choose-so (tells-pair u w u w) _ _ (refl, refl) ∙ choose-so (tells-eq (head .destination) (head .destination)) _ _ refl
 
   pub hear-view-other : (a b c : ℕ) → (a ≡ u → b ≡ w → c ≢ head .destination) → hear s w u head rest .view a b c ≡ s .view a b c
   unfolding hear
-  hear-view-other a b c f = choose-else (tells-and (tells-eq a u) (tells-and (tells-eq b w) (tells-eq c (head .destination)))) _ _ (λ p. f (p .0) (p .1 .0) (p .1 .1))
+  hear-view-other a b c f = go (decides (tells-pair u w a b))
+    where
+      go : Dec ((a ≡ u) × (b ≡ w)) → cond (eqb a u && eqb b w) (cond (eqb c (head .destination)) (head .value) (s .view u w c)) (s .view a b c) ≡ s .view a b c
+      go (yes p) = choose-so (tells-pair u w a b) _ _ p ∙ choose-else (tells-eq c (head .destination)) _ _ (f (p .0) (p .1)) ∙ rw (p .0, p .1)
+      go (no k) = choose-else (tells-pair u w a b) _ _ k
 
   pub hear-queue-at : hear s w u head rest .queue w u ≡ rest
   unfolding hear
-  hear-queue-at = choose-so (tells-and (tells-eq w w) (tells-eq u u)) _ _ (refl, refl)
+  hear-queue-at = choose-so (tells-pair w u w u) _ _ (refl, refl)
 
   pub hear-queue-other : (a b : ℕ) → (a ≡ w → b ≢ u) → hear s w u head rest .queue a b ≡ s .queue a b
   unfolding hear
-  hear-queue-other a b f = choose-else (tells-and (tells-eq a w) (tells-eq b u)) _ _ (λ p. f (p .0) (p .1))
+  hear-queue-other a b f = choose-else (tells-pair w u a b) _ _ (λ p. f (p .0) (p .1))
 
 -- A delivery is that and a recompute; from an empty queue it is nothing.
 pub deliver-head : (s : State) (w u : ℕ) (head : Entry) (rest : List Entry) → s .queue w u ≡ head ∷ rest → deliver s w u ≡ recompute (hear s w u head rest) u (head .destination)
@@ -287,50 +289,58 @@ deliver-none s w u e = rw (e, deliver)
 abbrev pub Between : ℕ → ℕ → ℕ → ℕ → Type 0
 Between a b x y = ((x ≡ a) × (y ≡ b)) ⊎ ((x ≡ b) × (y ≡ a))
 
-pub tells-between : (a b x y : ℕ) → Tells (between a b x y) (Between a b x y)
-tells-between a b x y = tells-or (tells-and (tells-eq x a) (tells-eq y b)) (tells-and (tells-eq x b) (tells-eq y a))
+pub tells-between : (a b x y : ℕ) → Tells ((eqb x a && eqb y b) || (eqb x b && eqb y a)) (Between a b x y)
+tells-between a b x y = tells-or (tells-pair a b x y) (tells-pair b a x y)
 
 pub between-back : {a b x y : ℕ} → Between a b x y → Between a b y x
 between-back (inl p) = inr (p .1, p .0)
 between-back (inr p) = inl (p .1, p .0)
 
+-- What both ends set is new in both directions, and old elsewhere.
+pub record Both {A : Type 0} (a b x y : ℕ) (cell new old : A) : Type 0 where
+  pub at : Between a b x y → cell ≡ new
+  pub other : (Between a b x y → ⊥) → cell ≡ old
+
+both : {A : Type 0} (a b x y : ℕ) (p q new old : A) → (x ≡ a → p ≡ new) → (x ≡ b → q ≡ new) → Both a b x y (cond (eqb x b && eqb y a) q (cond (eqb x a && eqb y b) p old)) new old
+both {A} a b x y p q new old f g = record {
+  at = λ h. go h (decides (tells-pair b a x y));
+  other = λ k. choose-else (tells-pair b a x y) _ _ (λ h. k (inr h)) ∙ choose-else (tells-pair a b x y) _ _ (λ h. k (inl h));
+}
+  where
+    go : Between a b x y → Dec ((x ≡ b) × (y ≡ a)) → cond (eqb x b && eqb y a) q (cond (eqb x a && eqb y b) p old) ≡ new
+    go h (yes i) = choose-so (tells-pair b a x y) _ _ i ∙ g (i .0)
+    go (inl i) (no k) = choose-else (tells-pair b a x y) _ _ k ∙ choose-so (tells-pair a b x y) _ _ i ∙ f (i .0)
+    go (inr i) (no k) = absurd (k i)
+
+pub both-same : {A : Type 0} {a b x y : ℕ} {c d new new′ old old′ : A} → Both a b x y c new old → Both a b x y d new′ old′ → new ≡ new′ → old ≡ old′ → c ≡ d
+both-same {a = a} {b} {x} {y} {c} {d} m k i j = go (decides (tells-between a b x y))
+  where
+    go : Dec (Between a b x y) → c ≡ d
+    go (yes h) = m .at h ∙ i ∙ sym (k .at h)
+    go (no f) = m .other f ∙ j ∙ sym (k .other f)
+
+pub both-either : {A : Type 0} {a b x y : ℕ} {cell new old : A} → Both a b x y cell new old → Both b a x y cell new old
+both-either m = record { at = λ h. m .at (elim h [ inl i ↦ inr i | inr i ↦ inl i ]); other = λ f. m .other (λ h. f (elim h [ inl i ↦ inr i | inr i ↦ inl i ])) }
+
 module _ (s : State) (a b x y : ℕ) where
-  pub up-link-at : Between a b x y → linkUp s a b .link x y ≡ 1
+  pub up-link : Both a b x y (linkUp s a b .link x y) 1 (s .link x y)
   unfolding linkUp
-  up-link-at h = choose-so (tells-between a b x y) _ _ h
+  up-link = both a b x y 1 1 1 (s .link x y) (λ i. refl) (λ i. refl)
 
-  pub up-link-other : (Between a b x y → ⊥) → linkUp s a b .link x y ≡ s .link x y
+  pub up-queue : Both a b x y (linkUp s a b .queue x y) (listed (s .n) (λ v. record { destination = v; value = s .distance x v })) (s .queue x y)
   unfolding linkUp
-  up-link-other f = choose-else (tells-between a b x y) _ _ f
+  up-queue =
+      let all : ℕ → List Entry = λ u. listed (s .n) (λ v. record { destination = v; value = s .distance u v }) in
+      both a b x y (all a) (all b) (all x) (s .queue x y) (λ i. ap all (sym i)) (λ i. ap all (sym i))
 
-  pub up-queue-at : Between a b x y → linkUp s a b .queue x y ≡ listed (s .n) (λ v. record { destination = v; value = s .distance x v })
-  unfolding linkUp
-  up-queue-at h = choose-so (tells-between a b x y) _ _ h
-
-  pub up-queue-other : (Between a b x y → ⊥) → linkUp s a b .queue x y ≡ s .queue x y
-  unfolding linkUp
-  up-queue-other f = choose-else (tells-between a b x y) _ _ f
-
-  pub cut-link-at : Between a b x y → cut s a b .link x y ≡ 0
+  pub cut-link : Both a b x y (cut s a b .link x y) 0 (s .link x y)
   unfolding cut
-  cut-link-at h = choose-so (tells-between a b x y) _ _ h
+  cut-link = both a b x y 0 0 0 (s .link x y) (λ i. refl) (λ i. refl)
 
-  pub cut-link-other : (Between a b x y → ⊥) → cut s a b .link x y ≡ s .link x y
+  pub cut-view : (v : ℕ) → Both a b x y (cut s a b .view x y v) (s .n) (s .view x y v)
   unfolding cut
-  cut-link-other f = choose-else (tells-between a b x y) _ _ f
+  cut-view v = both a b x y (s .n) (s .n) (s .n) (s .view x y v) (λ i. refl) (λ i. refl)
 
-  pub cut-view-at : (v : ℕ) → Between a b x y → cut s a b .view x y v ≡ s .n
+  pub cut-queue : Both a b x y (cut s a b .queue x y) [] (s .queue x y)
   unfolding cut
-  cut-view-at v h = choose-so (tells-between a b x y) _ _ h
-
-  pub cut-view-other : (v : ℕ) → (Between a b x y → ⊥) → cut s a b .view x y v ≡ s .view x y v
-  unfolding cut
-  cut-view-other v f = choose-else (tells-between a b x y) _ _ f
-
-  pub cut-queue-at : Between a b x y → cut s a b .queue x y ≡ []
-  unfolding cut
-  cut-queue-at h = choose-so (tells-between a b x y) _ _ h
-
-  pub cut-queue-other : (Between a b x y → ⊥) → cut s a b .queue x y ≡ s .queue x y
-  unfolding cut
-  cut-queue-other f = choose-else (tells-between a b x y) _ _ f
+  cut-queue = both a b x y [] [] [] (s .queue x y) (λ i. refl) (λ i. refl)

@@ -1,6 +1,6 @@
 -- Which end of a link is named first does not matter: each end recomputes from its own part of the state and changes only its own part, so that the two can be taken in either order. Assumes nothing.
 use mathlib.Core.Path.{_≡_, refl, sym, ap, subst, _∙_}
-use mathlib.Core.Logic.{_≢_, inl, inr}
+use mathlib.Core.Logic.{_≢_}
 use mathlib.Core.Bool.{Bool, true, false}
 use mathlib.Core.List.{List, [], _∷_, _++_}
 use Prim.Native.Nat.{ℕ, _<_}
@@ -12,14 +12,14 @@ use borrow.Author.Tests.{leb-false}
 use Rattle.hop_rule.specs.Words.{loop}
 use Rattle.hop_rule.specs.State.{State}
 use Rattle.hop_rule.specs.Rule as rule
-use Rattle.hop_rule.specs.Rule.{recompute, between, linkUp, cut, recomputeAll, linkDown}
+use Rattle.hop_rule.specs.Rule.{recompute, linkUp, cut, recomputeAll, linkDown}
 use Rattle.hop_rule.specs.Stored.{size, stored, nodes, readAs, read}
 use Rattle.hop_rule.specs.Calls.{Call, up, down, Refusal, judge, noNode, oneNode, isUp, isDown, onState, refusals, refused, changed, done, outcome}
 use Rattle.hop_laws.specs.Same.{Same}
 use Rattle.hop_laws.specs.Fine.{Fine}
 use Rattle.hop_laws.proofs.Tests.{tells-eq, tells-as, tells-same}
 use Rattle.hop_laws.proofs.Words.{loop-both, loop-keeps}
-use Rattle.hop_laws.proofs.Rule.{Alike, same-alike, distanceOf-alike, downstreamOf-alike, recompute-distance-other, recompute-downstream-other, recompute-queue-other, Between, tells-between}
+use Rattle.hop_laws.proofs.Rule.{Alike, same-alike, distanceOf-alike, downstreamOf-alike, recompute-distance-other, recompute-downstream-other, recompute-queue-other, both-same, both-either, up-link, up-queue, cut-link, cut-view, cut-queue}
 use Rattle.hop_laws.proofs.Same.{same-refl, stored-same}
 use Rattle.hop_laws.proofs.Calls.{judge-applies, judge-next, outcome-done, outcome-refused, state-fine, state-refused, state-passed}
 use Rattle.hop_rest.specs.Ends.{EndsAlike}
@@ -111,22 +111,15 @@ all-other s u x f = loop-keeps (λ t. SameAt x t s) (s .n) _ s (same-at-refl x s
 
 -- ---- either end first
 
-between-either : (a b x y : ℕ) → between a b x y ≡ between b a x y
-between-either a b x y = tells-same (tells-between a b x y) (tells-as swap swap (tells-between b a x y))
-  where
-    swap : {c d : ℕ} → Between c d x y → Between d c x y
-    swap (inl p) = inr p
-    swap (inr p) = inl p
-
 up-either : (s : State) (a b : ℕ) → Same (linkUp s a b) (linkUp s b a)
 unfolding linkUp
 up-either s a b = record {
   n = refl;
-  link = λ x y lx ly. rw (between-either a b x y);
+  link = λ x y lx ly. both-same (up-link s a b x y) (both-either (up-link s b a x y)) refl refl;
   distance = λ u v lu lv. refl;
   downstream = λ u v lu lv. refl;
   view = λ u w v lu lw lv. refl;
-  queue = λ x y lx ly. rw (between-either a b x y);
+  queue = λ x y lx ly. both-same (up-queue s a b x y) (both-either (up-queue s b a x y)) refl refl;
 }
 
 module _ (s : State) where
@@ -134,11 +127,11 @@ module _ (s : State) where
   unfolding cut
   cut-either a b x = record {
     n = refl;
-    link = λ y ly. rw (between-either a b x y);
+    link = λ y ly. both-same (cut-link s a b x y) (both-either (cut-link s b a x y)) refl refl;
     distance = λ v lv. refl;
     downstream = λ v lv. refl;
-    view = λ y v ly lv. rw (between-either a b x y);
-    queue = λ y ly. rw (between-either a b x y);
+    view = λ y v ly lv. both-same (cut-view s a b x y v) (both-either (cut-view s b a x y v)) refl refl;
+    queue = λ y ly. both-same (cut-queue s a b x y) (both-either (cut-queue s b a x y)) refl refl;
   }
 
   -- Each end's part is what it alone recomputes; every other part is as the cut left it.

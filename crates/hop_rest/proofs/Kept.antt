@@ -11,7 +11,7 @@ use Rattle.hop_rule.specs.Rule.{distanceOf, recompute, hear, deliver, linkUp, c
 use Rattle.hop_rule.specs.Sound.{Linked, Sends, Each, Sound}
 use Rattle.hop_laws.proofs.Tests.{tells-eq, tells-and, decides}
 use Rattle.hop_laws.proofs.Words.{loop-keeps}
-use Rattle.hop_laws.proofs.Rule.{Alike, same-alike, distanceOf-most, sound-current, current-alike, hear-view-at, hear-view-other, hear-queue-at, hear-queue-other, deliver-head, deliver-none, Between, tells-between, between-back, up-link-at, up-link-other, up-queue-at, up-queue-other, cut-link-at, cut-link-other, cut-view-at, cut-view-other, cut-queue-at, cut-queue-other}
+use Rattle.hop_laws.proofs.Rule.{Alike, same-alike, distanceOf-most, sound-current, current-alike, hear-view-at, hear-view-other, hear-queue-at, hear-queue-other, deliver-head, deliver-none, Between, tells-between, between-back, up-link, up-queue, cut-link, cut-view, cut-queue}
 use Rattle.hop_laws.proofs.Sound.{tells-sends}
 use Rattle.hop_rest.proofs.Frame.{deliver-n}
 use Rattle.hop_rest.proofs.Mended.{Brings, Steady, SoundBut, sound-steady, but-sound, brings-same, brings-hear, brings-all, recompute-mends, recompute-all-mends, recompute-all-n}
@@ -95,13 +95,13 @@ deliver-keeps-sound s w u o lw lu = go (s .queue w u) refl
 
 module _ (s : State) (a b : ℕ) (o : Sound s) where
   cut-symmetric : (x y : ℕ) → x < s .n → y < s .n → Dec (Between a b x y) → cut s a b .link x y ≡ cut s a b .link y x
-  cut-symmetric x y lx ly (yes h) = cut-link-at s a b x y h ∙ sym (cut-link-at s a b y x (between-back h))
-  cut-symmetric x y lx ly (no f) = cut-link-other s a b x y f ∙ o .symmetric x y lx ly ∙ sym (cut-link-other s a b y x (λ h. f (between-back h)))
+  cut-symmetric x y lx ly (yes h) = cut-link s a b x y .at h ∙ sym (cut-link s a b y x .at (between-back h))
+  cut-symmetric x y lx ly (no f) = cut-link s a b x y .other f ∙ o .symmetric x y lx ly ∙ sym (cut-link s a b y x .other (λ h. f (between-back h)))
 
   cut-brings : (x y : ℕ) → x < s .n → y < s .n → Sends (cut s a b) y x → (Between a b y x → ⊥) → Brings (s .n) (s .distance y) (cut s a b .view x y) (cut s a b .queue y x)
   cut-brings x y lx ly q f =
-      rw (cut-queue-other s a b y x f)
-      (brings-same _ _ _ _ _ _ (λ v l. refl) (λ v l. cut-view-other s a b x y v (λ h. f (between-back h))) (sound-steady o .brings x y lx ly (sym (cut-link-other s a b y x f) ∙ q)))
+      rw (cut-queue s a b y x .other f)
+      (brings-same _ _ _ _ _ _ (λ v l. refl) (λ v l. cut-view s a b x y v .other (λ h. f (between-back h))) (sound-steady o .brings x y lx ly (sym (cut-link s a b y x .other f) ∙ q)))
 
   -- Each end's pairs may be stale.
   cut-stale : SoundBut (λ x v. (x ≡ a) ⊎ (x ≡ b)) (cut s a b)
@@ -114,33 +114,33 @@ module _ (s : State) (a b : ℕ) (o : Sound s) where
       views = λ x y v lx ly lv. view x y v lx ly lv (decides (tells-between a b x y));
       down-views = λ x y v lx ly lv f. down-view x y v lx ly lv f (decides (tells-between a b x y));
       down-queues = λ x y lx ly f. down-queue x y lx ly f (decides (tells-between a b y x));
-      brings = λ x y lx ly q. cut-brings x y lx ly q (λ h. omega (arith, cut-link-at s a b y x h));
+      brings = λ x y lx ly q. cut-brings x y lx ly q (λ h. omega (arith, cut-link s a b y x .at h));
     };
     current = λ x v lx lv f. current-alike (same x v f) refl refl (sound-current o x v lx lv);
   }
     where
       bit : (x y : ℕ) → x < s .n → y < s .n → Dec (Between a b x y) → cut s a b .link x y ≤ 1
-      bit x y lx ly (yes h) = omega (arith, cut-link-at s a b x y h)
-      bit x y lx ly (no f) = omega (arith, cut-link-other s a b x y f, o .bits x y lx ly)
+      bit x y lx ly (yes h) = omega (arith, cut-link s a b x y .at h)
+      bit x y lx ly (no f) = omega (arith, cut-link s a b x y .other f, o .bits x y lx ly)
 
       down : (x : ℕ) → x < s .n → Dec (Between a b x x) → cut s a b .link x x ≡ 0
-      down x lx (yes h) = cut-link-at s a b x x h
-      down x lx (no f) = cut-link-other s a b x x f ∙ o .diagonal x lx
+      down x lx (yes h) = cut-link s a b x x .at h
+      down x lx (no f) = cut-link s a b x x .other f ∙ o .diagonal x lx
 
       view : (x y v : ℕ) → x < s .n → y < s .n → v < s .n → Dec (Between a b x y) → cut s a b .view x y v ≤ s .n
-      view x y v lx ly lv (yes h) = le-of-eq (cut-view-at s a b x y v h)
-      view x y v lx ly lv (no f) = rw (cut-view-other s a b x y v f) (o .views x y v lx ly lv)
+      view x y v lx ly lv (yes h) = le-of-eq (cut-view s a b x y v .at h)
+      view x y v lx ly lv (no f) = rw (cut-view s a b x y v .other f) (o .views x y v lx ly lv)
 
       down-view : (x y v : ℕ) → x < s .n → y < s .n → v < s .n → cut s a b .link x y ≢ 1 → Dec (Between a b x y) → cut s a b .view x y v ≡ s .n
-      down-view x y v lx ly lv k (yes h) = cut-view-at s a b x y v h
-      down-view x y v lx ly lv k (no f) = cut-view-other s a b x y v f ∙ o .down-views x y v lx ly lv (λ q. k (cut-link-other s a b x y f ∙ q))
+      down-view x y v lx ly lv k (yes h) = cut-view s a b x y v .at h
+      down-view x y v lx ly lv k (no f) = cut-view s a b x y v .other f ∙ o .down-views x y v lx ly lv (λ q. k (cut-link s a b x y .other f ∙ q))
 
       down-queue : (x y : ℕ) → x < s .n → y < s .n → (Sends (cut s a b) y x → ⊥) → Dec (Between a b y x) → cut s a b .queue y x ≡ []
-      down-queue x y lx ly k (yes h) = cut-queue-at s a b y x h
-      down-queue x y lx ly k (no f) = cut-queue-other s a b y x f ∙ o .down-queues x y lx ly (λ q. k (cut-link-other s a b y x f ∙ q))
+      down-queue x y lx ly k (yes h) = cut-queue s a b y x .at h
+      down-queue x y lx ly k (no f) = cut-queue s a b y x .other f ∙ o .down-queues x y lx ly (λ q. k (cut-link s a b y x .other f ∙ q))
 
       same : (x v : ℕ) → ((x ≡ a) ⊎ (x ≡ b) → ⊥) → Alike s (cut s a b) x v
-      same x v f = same-alike s (cut s a b) x v refl (λ y l. cut-link-other s a b x y (away y)) (λ y l. cut-view-other s a b x y v (away y))
+      same x v f = same-alike s (cut s a b) x v refl (λ y l. cut-link s a b x y .other (away y)) (λ y l. cut-view s a b x y v .other (away y))
         where
           away : (y : ℕ) → Between a b x y → ⊥
           away y (inl p) = f (inl (p .0))
@@ -161,12 +161,12 @@ module _ (s : State) (a b : ℕ) (o : Sound s) (la : a < s .n) (lb : b < s .n) (
   was-down x y (inr p) q = down (o .symmetric a b la lb ∙ rw (← p .0, ← p .1) q)
 
   up-symmetric : (x y : ℕ) → x < s .n → y < s .n → Dec (Between a b x y) → linkUp s a b .link x y ≡ linkUp s a b .link y x
-  up-symmetric x y lx ly (yes h) = up-link-at s a b x y h ∙ sym (up-link-at s a b y x (between-back h))
-  up-symmetric x y lx ly (no f) = up-link-other s a b x y f ∙ o .symmetric x y lx ly ∙ sym (up-link-other s a b y x (λ h. f (between-back h)))
+  up-symmetric x y lx ly (yes h) = up-link s a b x y .at h ∙ sym (up-link s a b y x .at (between-back h))
+  up-symmetric x y lx ly (no f) = up-link s a b x y .other f ∙ o .symmetric x y lx ly ∙ sym (up-link s a b y x .other (λ h. f (between-back h)))
 
   up-brings : (x y : ℕ) → x < s .n → y < s .n → Sends (linkUp s a b) y x → Dec (Between a b y x) → Brings (s .n) (s .distance y) (s .view x y) (linkUp s a b .queue y x)
-  up-brings x y lx ly q (yes h) = rw (up-queue-at s a b y x h) (brings-all (s .n) (s .distance y) (s .view x y))
-  up-brings x y lx ly q (no f) = rw (up-queue-other s a b y x f) (sound-steady o .brings x y lx ly (sym (up-link-other s a b y x f) ∙ q))
+  up-brings x y lx ly q (yes h) = rw (up-queue s a b y x .at h) (brings-all (s .n) (s .distance y) (s .view x y))
+  up-brings x y lx ly q (no f) = rw (up-queue s a b y x .other f) (sound-steady o .brings x y lx ly (sym (up-link s a b y x .other f) ∙ q))
 
   -- The views on it are n, so that recompute finds what it found.
   up-alike : (x v : ℕ) → x < s .n → v < s .n → Alike s (linkUp s a b) x v
@@ -178,12 +178,12 @@ module _ (s : State) (a b : ℕ) (o : Sound s) (la : a < s .n) (lb : b < s .n) (
   }
     where
       still : (y : ℕ) → s .link x y ≡ 1 → Dec (Between a b x y) → linkUp s a b .link x y ≡ 1
-      still y q (yes h) = up-link-at s a b x y h
-      still y q (no f) = up-link-other s a b x y f ∙ q
+      still y q (yes h) = up-link s a b x y .at h
+      still y q (no f) = up-link s a b x y .other f ∙ q
 
       before : (y : ℕ) → y < s .n → linkUp s a b .link x y ≡ 1 → s .view x y v < s .n → Dec (Between a b x y) → s .link x y ≡ 1
       before y l q k (yes h) = absurd (omega (arith, o .down-views x y v lx l lv (was-down x y h)))
-      before y l q k (no f) = sym (up-link-other s a b x y f) ∙ q
+      before y l q k (no f) = sym (up-link s a b x y .other f) ∙ q
 
   pub up-keeps-sound : Sound (linkUp s a b)
   unfolding linkUp
@@ -191,21 +191,21 @@ module _ (s : State) (a b : ℕ) (o : Sound s) (la : a < s .n) (lb : b < s .n) (
     steady = record {
       bits = λ x y lx ly. bit x y lx ly (decides (tells-between a b x y));
       symmetric = λ x y lx ly. up-symmetric x y lx ly (decides (tells-between a b x y));
-      diagonal = λ x lx. up-link-other s a b x x (λ h. elim h [ inl p ↦ apart (sym (p .0) ∙ p .1) | inr p ↦ apart (sym (p .1) ∙ p .0) ]) ∙ o .diagonal x lx;
+      diagonal = λ x lx. up-link s a b x x .other (λ h. elim h [ inl p ↦ apart (sym (p .0) ∙ p .1) | inr p ↦ apart (sym (p .1) ∙ p .0) ]) ∙ o .diagonal x lx;
       views = o .views;
-      down-views = λ x y v lx ly lv k. o .down-views x y v lx ly lv (λ q. k (up-link-other s a b x y (off x y k) ∙ q));
-      down-queues = λ x y lx ly k. up-queue-other s a b y x (off y x k) ∙ o .down-queues x y lx ly (λ q. k (up-link-other s a b y x (off y x k) ∙ q));
+      down-views = λ x y v lx ly lv k. o .down-views x y v lx ly lv (λ q. k (up-link s a b x y .other (off x y k) ∙ q));
+      down-queues = λ x y lx ly k. up-queue s a b y x .other (off y x k) ∙ o .down-queues x y lx ly (λ q. k (up-link s a b y x .other (off y x k) ∙ q));
       brings = λ x y lx ly q. up-brings x y lx ly q (decides (tells-between a b y x));
     };
     current = λ x v lx lv f. current-alike (up-alike x v lx lv) refl refl (sound-current o x v lx lv);
   })
     where
       bit : (x y : ℕ) → x < s .n → y < s .n → Dec (Between a b x y) → linkUp s a b .link x y ≤ 1
-      bit x y lx ly (yes h) = omega (arith, up-link-at s a b x y h)
-      bit x y lx ly (no f) = omega (arith, up-link-other s a b x y f, o .bits x y lx ly)
+      bit x y lx ly (yes h) = omega (arith, up-link s a b x y .at h)
+      bit x y lx ly (no f) = omega (arith, up-link s a b x y .other f, o .bits x y lx ly)
 
       off : (x y : ℕ) → linkUp s a b .link x y ≢ 1 → Between a b x y → ⊥
-      off x y k h = k (up-link-at s a b x y h)
+      off x y k h = k (up-link s a b x y .at h)
 
 -- ---- pass and passes
 

@@ -11,7 +11,7 @@ use Rattle.hop_rule.specs.Rule.{recompute, hear, deliver, linkUp, cut, recomput
 use Rattle.hop_rule.specs.Sound.{Sound}
 use Rattle.hop_laws.specs.Same.{Same}
 use Rattle.hop_laws.proofs.Words.{loop-both, sum-same, listed-same, joined-same, first-same}
-use Rattle.hop_laws.proofs.Rule.{Alike, distanceOf-alike, downstreamOf-alike, deliver-head, deliver-none}
+use Rattle.hop_laws.proofs.Rule.{Alike, distanceOf-alike, downstreamOf-alike, deliver-head, deliver-none, both-same, up-queue}
 use Rattle.hop_laws.proofs.Same.{same-reads}
 use Rattle.hop_rest.specs.Orders.{Queue, Nodes, deliveries, ascending}
 use Rattle.hop_rest.proofs.Frame.{deliver-n}
@@ -34,14 +34,14 @@ module _ {s t : State} (e : Same s t) where
       reads : Alike s t u v
       reads = same-reads e u v lu lv
 
-  hear-same : (w u : ℕ) (head : Entry) (rest : List Entry) → Same (hear s w u head rest) (hear t w u head rest)
+  hear-same : (w u : ℕ) (head : Entry) (rest : List Entry) → w < s .n → u < s .n → Same (hear s w u head rest) (hear t w u head rest)
   unfolding hear
-  hear-same w u head rest = record {
+  hear-same w u head rest lw lu = record {
     n = e .n;
     link = e .link;
     distance = e .distance;
     downstream = e .downstream;
-    view = λ a b c la lb lc. rw (e .view a b c la lb lc);
+    view = λ a b c la lb lc. rw (e .view u w c lu lw lc, e .view a b c la lb lc);
     queue = λ a b la lb. rw (e .queue a b la lb);
   }
 
@@ -53,7 +53,7 @@ deliver-same {s} {t} w u o lw lu e = go (s .queue w u) refl
     go [] i = rw (deliver-none s w u i, deliver-none t w u (sym (e .queue w u lw lu) ∙ i)) e
     go (head ∷ rest) i =
         rw (deliver-head s w u head rest i, deliver-head t w u head rest (sym (e .queue w u lw lu) ∙ i))
-        (recompute-same (hear-same e w u head rest) u (head .destination) lu (waiting-below s w u o lw lu head rest i))
+        (recompute-same (hear-same e w u head rest lw lu) u (head .destination) lu (waiting-below s w u o lw lu head rest i))
 
 pub deliveries-same : {s t : State} (qs : List Queue) → Sound s → Nodes (s .n) qs → Same s t → Same (deliveries s qs) (deliveries t qs)
 unfolding deliveries
@@ -73,7 +73,7 @@ module _ {s t : State} (e : Same s t) (a b : ℕ) where
     distance = e .distance;
     downstream = e .downstream;
     view = e .view;
-    queue = λ x y lx ly. rw (all x lx, e .queue x y lx ly);
+    queue = λ x y lx ly. both-same (up-queue s a b x y) (up-queue t a b x y) (all x lx) (e .queue x y lx ly);
   }
     where
       -- All that x announces.

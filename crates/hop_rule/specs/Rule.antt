@@ -1,32 +1,34 @@
 -- 01, 'The rule': Tajibnapis's rule as functions from a state to a state, in 01's order. Uses State and Words.
-use mathlib.Core.Bool.{Bool, not, _&&_, _||_}
+use mathlib.Core.Bool.{Bool, not, _&&_}
 use mathlib.Core.List.{List, [], _∷_}
 use Prim.Native.Nat.{ℕ, zero, suc, min}
 use lib.Dec.{eqb, ltb}
 use lib.ListN.{length}
 use Rattle.hop_rule.specs.Words.{if_then_else_, loop, sum, listed, first}
-use Rattle.hop_rule.specs.State.{State, Entry}
+use Rattle.hop_rule.specs.State.{State, Entry, withLink, withRoute, withViews, withView, withQueues, withQueue}
 
--- u's end of the link to w is up, where its byte is exactly 1. By its own end a node looks at its views.
+-- u's own end of the link to w is up, where its byte is exactly 1. By it u looks at its views from w.
 abbrev pub up : State → ℕ → ℕ → Bool
 up s u w = eqb (s .link u w) 1
 
--- w sends to u: the queue from w to u is in use. It goes by the sender's end.
+-- w sends to u: the queue from w to u is in use. By the sender's end.
 abbrev pub sends : State → ℕ → ℕ → Bool
 sends s w u = up s w u
 
--- 'Recompute', the distance of u to v. If v = u: 0. Otherwise the smaller of n and 1 + the least view of v over u's up links, of which `least` has those to the first k nodes.
+-- 'Recompute': the smaller of n and 1 + the least view of v over u's up links to the first k nodes.
 unfoldable pub least : State → ℕ → ℕ → ℕ → ℕ
 least s u v zero = s .n
 least s u v (suc w) = if up s u w then min (suc (s .view u w v)) (least s u v w) else least s u v w
 
+-- The distance. If v = u: 0, always.
 unfoldable pub distanceOf : State → ℕ → ℕ → ℕ
 distanceOf s u v = if eqb u v then 0 else least s u v (s .n)
 
--- 'Recompute', the downstream of u for v at the distance d. If v = u: u. Otherwise the lowest-numbered neighbour that gives this distance, or 255 (none) where the distance is n.
+-- Does w give u the distance d to v?
 abbrev pub gives : State → ℕ → ℕ → ℕ → ℕ → Bool
 gives s u v d w = up s u w && eqb (suc (s .view u w v)) d
 
+-- The downstream at the distance d. If v = u: u, always. Otherwise the lowest-numbered neighbour that gives this distance, or 255 (none) where the distance is n.
 unfoldable pub downstreamOf : State → ℕ → ℕ → ℕ → ℕ
 downstreamOf s u v d = if eqb u v then u else if eqb d (s .n) then 255 else first (s .n) (gives s u v d)
 
@@ -42,55 +44,29 @@ recompute s u v =
     let x = downstreamOf s u v d in
     let changed = not (eqb d (s .distance u v)) in
     let entry : Entry = record { destination = v; value = d } in
-    record {
-      n = s .n;
-      link = s .link;
-      distance = λ a c. if eqb a u && eqb c v then d else s .distance a c;
-      downstream = λ a c. if eqb a u && eqb c v then x else s .downstream a c;
-      view = s .view;
-      queue = λ a b. if eqb a u && (sends s u b && changed) then send entry (s .queue a b) else s .queue a b;
-    }
+    withQueues (withRoute s u v d x) (λ a b. if eqb a u && (sends s u b && changed) then send entry (s .queue a b) else s .queue a b)
 
 -- 'Deliver', its first half: the head entry leaves the queue from w to u, and u's view of its destination from w becomes its value.
 unfoldable pub hear : State → ℕ → ℕ → Entry → List Entry → State
-hear s w u head rest = record {
-  n = s .n;
-  link = s .link;
-  distance = s .distance;
-  downstream = s .downstream;
-  view = λ a b c. if eqb a u && (eqb b w && eqb c (head .destination)) then head .value else s .view a b c;
-  queue = λ a b. if eqb a w && eqb b u then rest else s .queue a b;
-}
+hear s w u head rest = withView (withQueue s w u rest) u w (head .destination) (head .value)
 
 -- 'Deliver' from w to u: the head entry is heard, and u recomputes its destination. From an empty queue there is nothing to deliver.
 unfoldable pub deliver : State → ℕ → ℕ → State
 deliver s w u = elim (s .queue w u) [ [] ↦ s | head ∷ rest ↦ recompute (hear s w u head rest) u (head .destination) ]
 
--- Is x → y one of the two directions of the link a, b?
-abbrev pub between : ℕ → ℕ → ℕ → ℕ → Bool
-between a b x y = (eqb x a && eqb y b) || (eqb x b && eqb y a)
+-- 'Link up' a, b: each end puts all n destinations, ascending, with its own distances, into its queue to the other, those of value n too. Views on it stay n. Nothing is recomputed.
+abbrev pub upEnd : State → ℕ → ℕ → State
+upEnd s u w = withQueue (withLink s u w 1) u w (listed (s .n) (λ v. record { destination = v; value = s .distance u v }))
 
--- 'Link up' a, b: each end puts all n destinations, ascending, with its own distances, into its queue to the other, those of value n too. Nothing is recomputed.
 unfoldable pub linkUp : State → ℕ → ℕ → State
-linkUp s a b = record {
-  n = s .n;
-  link = λ x y. if between a b x y then 1 else s .link x y;
-  distance = s .distance;
-  downstream = s .downstream;
-  view = s .view;
-  queue = λ x y. if between a b x y then listed (s .n) (λ v. record { destination = v; value = s .distance x v }) else s .queue x y;
-}
+linkUp s a b = upEnd (upEnd s a b) b a
 
--- 'Link down', its first half: the link is down, both queues are emptied, and the views on it become n.
+-- 'Link down', its first half: at each end the link is down, the queue to the other is emptied, and the views on it become n.
+abbrev pub cutEnd : State → ℕ → ℕ → State
+cutEnd s u w = withQueue (withViews (withLink s u w 0) u w (λ v. s .n)) u w []
+
 unfoldable pub cut : State → ℕ → ℕ → State
-cut s a b = record {
-  n = s .n;
-  link = λ x y. if between a b x y then 0 else s .link x y;
-  distance = s .distance;
-  downstream = s .downstream;
-  view = λ x y v. if between a b x y then s .n else s .view x y v;
-  queue = λ x y. if between a b x y then [] else s .queue x y;
-}
+cut s a b = cutEnd (cutEnd s a b) b a
 
 -- u recomputes every destination, in ascending order.
 unfoldable pub recomputeAll : State → ℕ → State

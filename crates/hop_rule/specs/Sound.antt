@@ -12,11 +12,11 @@ use Rattle.hop_rule.specs.State.{State, Entry}
 use Rattle.hop_rule.specs.Rule.{up, sends, distanceOf, downstreamOf}
 use Rattle.hop_rule.specs.Stored.{nodes, flat, deep, readAs}
 
--- u's end of the link to w is up.
+-- What `up` tests: u's own end of the link to w is up.
 abbrev pub Linked : State → ℕ → ℕ → Type 0
 Linked s u w = s .link u w ≡ 1
 
--- w sends to u: the queue from w to u is in use. It goes by the sender's end.
+-- What `sends` tests: the queue from w to u is in use, by the sender's end.
 abbrev pub Sends : State → ℕ → ℕ → Type 0
 Sends s w u = Linked s w u
 
@@ -35,7 +35,7 @@ abbrev pub Each : (Entry → Type 0) → List Entry → Type 0
 Each P [] = Unit {0}
 Each P (e ∷ q) = P e × Each P q
 
--- u's downstream for v is what recompute gives at u's distance.
+-- u's downstream for v is what recompute gives at the distance that u has.
 abbrev pub Leads : State → ℕ → ℕ → Type 0
 Leads s u v = s .downstream u v ≡ downstreamOf s u v (s .distance u v)
 
