@@ -1,7 +1,7 @@
 // The public questions about a state: no byte of it changes. None counts on its caller: each refuses by document 01's numbers, in its order, or answers what hop_rule says.
 
 use hop_cells::get2;
-use hop_cells::nodes;
+use hop_judge::Judged;
 use hop_judge::judge_ends;
 use hop_judge::judge_pair;
 use hop_judge::judge_state;
@@ -23,67 +23,55 @@ pub enum Answer {
 pub fn distance(s: &[u8], u: usize, v: usize) -> Answer
     ensures { λ r. ⌜ asked r (now (s .entry)) [] ≡ outcome (call.distance u v) (now (s .entry)) [] ⌝ }
 {
-    let c = judge_pair(s, u, v);
-    if c != 0 {
-        return Answer::Refused(c);
+    match judge_pair(s, u, v) {
+        Judged::Refused(c) => Answer::Refused(c),
+        Judged::Go(n) => Answer::Value(get2(s, n, Table::Distances, u, v) as u32),
     }
-    let n = nodes(s);
-    let d = get2(s, n, Table::Distances, u, v);
-    Answer::Value(d as u32)
 }
 
 // The downstream neighbour of u for v; u for u itself, 255 for none. Refuses 2, 1, 2, 3, 4.
 pub fn downstream(s: &[u8], u: usize, v: usize) -> Answer
     ensures { λ r. ⌜ asked r (now (s .entry)) [] ≡ outcome (call.downstream u v) (now (s .entry)) [] ⌝ }
 {
-    let c = judge_pair(s, u, v);
-    if c != 0 {
-        return Answer::Refused(c);
+    match judge_pair(s, u, v) {
+        Judged::Refused(c) => Answer::Refused(c),
+        Judged::Go(n) => Answer::Value(get2(s, n, Table::Downstreams, u, v) as u32),
     }
-    let n = nodes(s);
-    let w = get2(s, n, Table::Downstreams, u, v);
-    Answer::Value(w as u32)
 }
 
 // The entries that wait from w to u; 0 where the link is down. Refuses 2, 1, 2, 3, 4, 5.
 pub fn queue_length(s: &[u8], w: usize, u: usize) -> Answer
     ensures { λ r. ⌜ asked r (now (s .entry)) [] ≡ outcome (call.queueLength w u) (now (s .entry)) [] ⌝ }
 {
-    let c = judge_ends(s, w, u);
-    if c != 0 {
-        return Answer::Refused(c);
+    match judge_ends(s, w, u) {
+        Judged::Refused(c) => Answer::Refused(c),
+        Judged::Go(n) => Answer::Value(get2(s, n, Table::Lengths, w, u) as u32),
     }
-    let n = nodes(s);
-    let k = get2(s, n, Table::Lengths, w, u);
-    Answer::Value(k as u32)
 }
 
 // The entries that wait in the whole state. Refuses 2, 1, 2, 3.
 pub fn total_queued(s: &[u8]) -> Answer
     ensures { λ r. ⌜ asked r (now (s .entry)) [] ≡ outcome call.totalQueued (now (s .entry)) [] ⌝ }
 {
-    let c = judge_state(s);
-    if c != 0 {
-        return Answer::Refused(c);
+    match judge_state(s) {
+        Judged::Refused(c) => Answer::Refused(c),
+        Judged::Go(n) => Answer::Value(hop_runs::queued(s, n) as u32),
     }
-    let n = nodes(s);
-    let k = hop_runs::queued(s, n);
-    Answer::Value(k as u32)
 }
 
 // The status record of node u, written to out: 14 bytes, which is the value. Refuses 2, 1, 2, 3, 4, 2.
 pub fn status(s: &[u8], u: usize, out: &mut [u8]) -> Answer
     ensures { λ r. ⌜ asked r (now (s .entry)) (now (out .exit)) ≡ outcome (call.status u) (now (s .entry)) (now (out .entry)) ⌝ }
 {
-    let c = judge_status(s, u, out);
-    if c != 0 {
-        return Answer::Refused(c);
+    match judge_status(s, u, out) {
+        Judged::Refused(c) => Answer::Refused(c),
+        Judged::Go(n) => {
+            let waiting_for = hop_runs::waiting_for(s, n, u);
+            let waiting_from = hop_runs::waiting_from(s, n, u);
+            let reached = hop_runs::reached(s, n, u);
+            let total = hop_runs::queued(s, n);
+            hop_records::write_status(out, u, waiting_for, waiting_from, reached, total);
+            Answer::Value(14)
+        }
     }
-    let n = nodes(s);
-    let waiting_for = hop_runs::waiting_for(s, n, u);
-    let waiting_from = hop_runs::waiting_from(s, n, u);
-    let reached = hop_runs::reached(s, n, u);
-    let total = hop_runs::queued(s, n);
-    hop_records::write_status(out, u, waiting_for, waiting_from, reached, total);
-    Answer::Value(14)
 }

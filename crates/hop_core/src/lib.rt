@@ -1,6 +1,6 @@
 // The public calls that change a state, and check. None counts on its caller: each refuses by document 01's numbers, in its order, or does what hop_rule says.
 
-use hop_cells::nodes;
+use hop_judge::Judged;
 use hop_judge::judge_deliver;
 use hop_judge::judge_down;
 use hop_judge::judge_make;
@@ -29,72 +29,76 @@ pub enum RunAnswer {
 pub fn make(s: &mut [u8], n: usize) -> u32
     ensures { λ r. ⌜ told r (now (s .exit)) ≡ outcome (call.make n) (now (s .entry)) [] ⌝ }
 {
-    let c = judge_make(s, n);
-    if c != 0 {
-        return c;
+    match judge_make(s, n) {
+        Judged::Refused(c) => c,
+        Judged::Go(_) => {
+            hop_steps::make(s, n);
+            0
+        }
     }
-    hop_steps::make(s, n);
-    0
 }
 
 // Is the state sound? Refuses 2, 1, 2, 3.
 pub fn check(s: &[u8]) -> u32
     ensures { λ r. ⌜ told r (now (s .entry)) ≡ outcome call.check (now (s .entry)) [] ⌝ }
 {
-    judge_state(s)
+    match judge_state(s) {
+        Judged::Refused(c) => c,
+        Judged::Go(_) => 0,
+    }
 }
 
 // The link between a and b comes up. Refuses 2, 1, 2, 3, 4, 5, 6.
 pub fn up(s: &mut [u8], a: usize, b: usize) -> u32
     ensures { λ r. ⌜ told r (now (s .exit)) ≡ outcome (call.up a b) (now (s .entry)) [] ⌝ }
 {
-    let c = judge_up(s, a, b);
-    if c != 0 {
-        return c;
+    match judge_up(s, a, b) {
+        Judged::Refused(c) => c,
+        Judged::Go(n) => {
+            hop_steps::link_up(s, n, a, b);
+            0
+        }
     }
-    let n = nodes(s);
-    hop_steps::link_up(s, n, a, b);
-    0
 }
 
 // The link between a and b goes down, at both ends at one moment. Refuses 2, 1, 2, 3, 4, 5, 7.
 pub fn down(s: &mut [u8], a: usize, b: usize) -> u32
     ensures { λ r. ⌜ told r (now (s .exit)) ≡ outcome (call.down a b) (now (s .entry)) [] ⌝ }
 {
-    let c = judge_down(s, a, b);
-    if c != 0 {
-        return c;
+    match judge_down(s, a, b) {
+        Judged::Refused(c) => c,
+        Judged::Go(n) => {
+            hop_steps::link_down(s, n, a, b);
+            0
+        }
     }
-    let n = nodes(s);
-    hop_steps::link_down(s, n, a, b);
-    0
 }
 
 // The head of the queue from w to u is delivered. Refuses 2, 1, 2, 3, 4, 5, 7, 8.
 pub fn deliver(s: &mut [u8], w: usize, u: usize) -> u32
     ensures { λ r. ⌜ told r (now (s .exit)) ≡ outcome (call.deliver w u) (now (s .entry)) [] ⌝ }
 {
-    let c = judge_deliver(s, w, u);
-    if c != 0 {
-        return c;
+    match judge_deliver(s, w, u) {
+        Judged::Refused(c) => c,
+        Judged::Go(n) => {
+            hop_steps::deliver(s, n, w, u);
+            0
+        }
     }
-    let n = nodes(s);
-    hop_steps::deliver(s, n, w, u);
-    0
 }
 
 // One pass. Refuses 2, 1, 2, 3.
 pub fn pass(s: &mut [u8]) -> PassAnswer
     ensures { λ r. ⌜ passed r (now (s .exit)) ≡ outcome call.pass (now (s .entry)) [] ⌝ }
 {
-    let c = judge_state(s);
-    if c != 0 {
-        return PassAnswer::Refused(c);
+    match judge_state(s) {
+        Judged::Refused(c) => PassAnswer::Refused(c),
+        Judged::Go(n) => {
+            let d = hop_runs::queued(s, n);
+            hop_runs::pass(s, n);
+            PassAnswer::Delivered(d as u32)
+        }
     }
-    let n = nodes(s);
-    let d = hop_runs::queued(s, n);
-    hop_runs::pass(s, n);
-    PassAnswer::Delivered(d as u32)
 }
 
 fn count(allowance: u8) -> u32
@@ -107,11 +111,11 @@ fn count(allowance: u8) -> u32
 pub fn run(s: &mut [u8], allowance: u8) -> RunAnswer
     ensures { λ r. ⌜ ran r (now (s .exit)) ≡ outcome (call.run allowance) (now (s .entry)) [] ⌝ }
 {
-    let c = judge_state(s);
-    if c != 0 {
-        return RunAnswer::Refused(c);
+    match judge_state(s) {
+        Judged::Refused(c) => RunAnswer::Refused(c),
+        Judged::Go(n) => {
+            let r = hop_runs::run(s, n, count(allowance));
+            RunAnswer::Made(r.passes, r.deliveries)
+        }
     }
-    let n = nodes(s);
-    let r = hop_runs::run(s, n, count(allowance));
-    RunAnswer::Made(r.passes, r.deliveries)
 }

@@ -1,94 +1,59 @@
--- How the code's tests meet the list of refusals: what the first of them refuse is refused; where none of them applies, the next decides. Assumes nothing.
-use mathlib.Core.Path.{_≡_, sym, ap, _∙_}
-use mathlib.Core.Logic.{_≢_, _⊎_}
-use mathlib.Core.Bool.{Bool, true, false, not}
+-- How the code's tests meet the list of refusals: what the first of them refuse is refused; where none of them applies, the next decides. So an answer tells the call's outcome. Assumes nothing.
+use mathlib.Core.Path.{_≡_, refl, sym, ap, ap₂, _∙_}
+use mathlib.Core.Logic.{_≢_}
+use mathlib.Core.Bool.{Bool, true, false}
 use mathlib.Core.List.{List, [], _∷_, _++_}
-use Prim.Native.Nat.{ℕ, _≤_, _<_}
-use lib.Dec.{leb}
+use Prim.Native.Nat.{ℕ, zero, suc}
+use native.Mathlib.Omega.{arith}
 use lib.ListN.{length}
-use borrow.Author.Tests.{eq-eqb, ne-eqb, lt-ltb, le-ltb, lt-leb, le-leb}
-use Rattle.hop_rule.specs.declared.Table.the-variants.{Links, Lengths}
+use borrow.Author.Tests.{ne-eqb}
+use Rattle.hop_rule.specs.Words.{if_then_else_}
 use Rattle.hop_rule.specs.Stored.{size, nodes}
-use Rattle.hop_rule.specs.Sound.{isSoundAs, isSoundBytes}
-use Rattle.hop_rule.specs.Calls.{Refusal, judge, empty, badCount, short, notSound, noNode, isUp, nothingWaits, onState}
-use Rattle.hop_laws.proofs.Calls.{judge-applies, judge-next, judge-first, judge-passed, Numbered, tells-bad-count, count-good}
-use Rattle.hop_cells.specs.Cells.{get2}
-use Rattle.hop_cells.proofs.Read.{link-read, length-read}
+use Rattle.hop_rule.specs.Calls.{Call, make, Refusal, judge, empty, badCount, short, refusals, refused, done, outcome}
+use Rattle.hop_laws.proofs.Calls.{judge-applies, judge-next, judge-first, judge-passed, Numbered, outcome-done, outcome-refused}
+use Rattle.hop_judge.specs.declared.Judged.{Judged}
+use Rattle.hop_judge.specs.declared.Judged.the-variants.{Go, Refused}
+use Rattle.hop_judge.specs.Verdict.{verdict}
 
-module _ (rs : List Refusal) {c : ℕ} (e : c ≡ judge rs) where
-  pub refused-already : (more : List Refusal) → c ≢ 0 → c ≡ judge (rs ++ more)
-  refused-already more f = e ∙ sym (judge-first rs more (λ z. f (e ∙ z)))
+-- Which case an answer is tells the number.
+pub gone : (c m : ℕ) {j : Judged} → j ≡ verdict c m → {n : ℕ} → j ≡ Go n → (c ≡ 0) × (n ≡ m)
+unfolding verdict
+gone zero m e g = (refl, cc)
+gone (suc c) m e g = let never : _≡_ {A = ℕ} 0 1 = cc (ne-eqb (suc c) 0 (λ z. omega arith)) in absurd (omega arith)
 
-  module _ (r : Refusal) (positive : Numbered rs) (z : c ≡ 0) where
-    pub refused-next : r .applies ≡ true → r .number ≡ judge (rs ++ (r ∷ []))
-    refused-next t = sym (judge-passed rs (r ∷ []) positive (sym e ∙ z) ∙ judge-applies r [] t)
+pub stopped : (c m : ℕ) {j : Judged} → j ≡ verdict c m → {k : ℕ} → j ≡ Refused k → (k ≡ c) × (k ≢ 0)
+unfolding verdict
+stopped zero m e f = let never : _≡_ {A = ℕ} 0 1 = cc in absurd (omega arith)
+stopped (suc c) m e {k} f = let same : k ≡ suc c = cc (ne-eqb (suc c) 0 (λ z. omega arith)) in (same, λ z. omega arith)
 
-    pub passed-next : r .applies ≡ false → 0 ≡ judge (rs ++ (r ∷ []))
-    unfolding judge
-    passed-next t = sym (judge-passed rs (r ∷ []) positive (sym e ∙ z) ∙ judge-next r [] t)
+module _ (r : Refusal) (more : List Refusal) (m : ℕ) where
+  pub first-refuses : r .applies ≡ true → verdict (r .number) m ≡ verdict (judge (r ∷ more)) m
+  first-refuses t = ap (λ c. verdict c m) (sym (judge-applies r more t))
 
--- A node count, asked for or claimed.
-pub bad-count : (n : ℕ) (more : List Refusal) → (n ≡ 0) ⊎ (40 < n) → 1 ≡ judge (badCount n ∷ more)
-bad-count n more b = sym (judge-applies (badCount n) more (tells-bad-count n .if-so b))
+  pub first-passes : r .applies ≡ false → verdict (judge more) m ≡ verdict (judge (r ∷ more)) m
+  first-passes t = ap (λ c. verdict c m) (sym (judge-next r more t))
 
-pub short-buffer : (s : List ℕ) (n : ℕ) (more : List Refusal) → 1 ≤ n → n ≤ 40 → length s < size n → 2 ≡ judge (badCount n ∷ short s (size n) ∷ more)
-short-buffer s n more l m b = sym (judge-next (badCount n) _ (count-good n l m) ∙ judge-applies (short s (size n)) more (lt-ltb _ _ b))
+-- After the first of them.
+module _ (rs : List Refusal) (m : ℕ) {j : Judged} (e : j ≡ verdict (judge rs) m) where
+  pub refused-already : (more : List Refusal) {k : ℕ} → j ≡ Refused k → j ≡ verdict (judge (rs ++ more)) m
+  refused-already more f = let (same, some) = stopped _ _ e f in e ∙ ap (λ c. verdict c m) (sym (judge-first rs more (λ z. some (same ∙ z))))
 
-pub long-buffer : (s : List ℕ) (n : ℕ) (more : List Refusal) → 1 ≤ n → n ≤ 40 → size n ≤ length s → judge more ≡ judge (badCount n ∷ short s (size n) ∷ more)
-long-buffer s n more l m b = sym (judge-next (badCount n) _ (count-good n l m) ∙ judge-next (short s (size n)) more (le-ltb _ _ b))
+  -- The code's test b is the refusal's, by the count that it goes on with.
+  pub judged-next : (r : Refusal) → Numbered rs → {n : ℕ} → j ≡ Go n → {b : Bool} → (n ≡ m → b ≡ r .applies) → {i : Judged} → i ≡ verdict (if b then r .number else 0) n → i ≡ verdict (judge (rs ++ (r ∷ []))) m
+  unfolding judge
+  judged-next r positive g same h =
+      let (none, claim) = gone _ _ e g in
+      h ∙ ap₂ (λ b k. verdict (if b then r .number else 0) k) (same claim) claim ∙ ap (λ c. verdict c m) (sym (judge-passed rs (r ∷ []) positive none))
 
--- ---- the state's own refusals
+-- A buffer that is not empty is judged by the count that its first byte claims.
+pub claimed : (s : List ℕ) → length s ≢ 0 → {n : ℕ} → n ≡ nodes s → {j : Judged} → j ≡ verdict (judge (refusals (make n) s [])) n → j ≡ verdict (judge (empty s ∷ badCount (nodes s) ∷ short s (size (nodes s)) ∷ [])) (nodes s)
+unfolding refusals
+claimed s some claim e = rw claim at e ∙ first-passes (empty s) _ (nodes s) (ne-eqb _ _ some)
 
-pub empty-state : (s : List ℕ) → length s ≡ 0 → 2 ≡ judge (onState s [])
-empty-state s e = sym (judge-applies (empty s) _ (eq-eqb _ _ e))
+-- A call is refused with the number of the answer, or done where it goes on.
+module _ (c : Call) (s out : List ℕ) (m : ℕ) {j : Judged} (e : j ≡ verdict (judge (refusals c s out)) m) where
+  pub call-refused : {k : ℕ} → j ≡ Refused k → refused k s out ≡ outcome c s out
+  call-refused f = let (same, some) = stopped _ _ e f in ap (λ i. refused i s out) same ∙ sym (outcome-refused c s out (λ z. some (same ∙ z)))
 
--- A buffer that is not empty is judged by its claim.
-module _ (s : List ℕ) (some : length s ≢ 0) {n : ℕ} (claim : n ≡ nodes s) where
-  claimed : judge (badCount (nodes s) ∷ short s (size (nodes s)) ∷ notSound s ∷ []) ≡ judge (onState s [])
-  claimed = sym (judge-next (empty s) _ (ne-eqb _ _ some))
-
-  pub bad-state : (n ≡ 0) ⊎ (40 < n) → 1 ≡ judge (onState s [])
-  bad-state b = bad-count (nodes s) _ (rw claim at b) ∙ claimed
-
-  module _ (least : 1 ≤ n) (most : n ≤ 40) where
-    pub short-state : length s < size n → 2 ≡ judge (onState s [])
-    short-state b = short-buffer s (nodes s) _ (rw claim at least) (rw claim at most) (rw claim at b) ∙ claimed
-
-    module _ (room : size n ≤ length s) {b : Bool} (judged : b ≡ isSoundAs n s) where
-      last : judge (notSound s ∷ []) ≡ judge (onState s [])
-      last = long-buffer s (nodes s) _ (rw claim at least) (rw claim at most) (rw claim at room) ∙ claimed
-
-      is-judged : isSoundBytes s ≡ b
-      is-judged = sym (judged ∙ ap (λ m. isSoundAs m s) claim)
-
-      pub unsound-state : b ≡ false → 3 ≡ judge (onState s [])
-      unsound-state e = sym (judge-applies (notSound s) [] (ap not (is-judged ∙ e))) ∙ last
-
-      pub sound-state : b ≡ true → 0 ≡ judge (onState s [])
-      unfolding judge
-      sound-state e = sym (judge-next (notSound s) [] (ap not (is-judged ∙ e))) ∙ last
-
--- ---- the refusals after them, by what the code read: n is the first byte, handed in
-
-module _ (s : List ℕ) {n : ℕ} (claim : n ≡ nodes s) where
-  -- A node number is compared with n.
-  pub no-node : (a : ℕ) → n ≤ a → noNode s a .applies ≡ true
-  no-node a l = ap (λ m. leb m a) (sym claim) ∙ le-leb _ _ l
-
-  pub is-node : (a : ℕ) → a < n → noNode s a .applies ≡ false
-  is-node a l = ap (λ m. leb m a) (sym claim) ∙ lt-leb _ _ l
-
-  module _ (a b : ℕ) {x : ℕ} where
-    -- A link's byte is 1 where it is up. That it is down is the same test, turned round.
-    pub link-up : x ≡ get2 n Links a b s → x ≡ 1 → isUp s a b .applies ≡ true
-    link-up byte e = eq-eqb _ _ (sym (byte ∙ link-read s claim a b) ∙ e)
-
-    pub link-down : x ≡ get2 n Links a b s → x ≢ 1 → isUp s a b .applies ≡ false
-    link-down byte f = ne-eqb _ _ (λ e. f (byte ∙ link-read s claim a b ∙ e))
-
-    -- A queue's length byte is 0 where nothing waits.
-    pub none-waits : x ≡ get2 n Lengths a b s → x ≡ 0 → nothingWaits s a b .applies ≡ true
-    none-waits byte e = eq-eqb _ _ (sym (byte ∙ length-read s claim a b) ∙ e)
-
-    pub some-wait : x ≡ get2 n Lengths a b s → x ≢ 0 → nothingWaits s a b .applies ≡ false
-    some-wait byte f = ne-eqb _ _ (λ e. f (byte ∙ length-read s claim a b ∙ e))
+  pub call-done : {n : ℕ} → j ≡ Go n → done c s out ≡ outcome c s out
+  call-done g = sym (outcome-done c s out (gone _ _ e g .0))

@@ -1,18 +1,17 @@
 -- `status` meets its contract: it is refused by its number, or writes the five numbers that it counts. Assumes nothing.
 use borrow.Author.Needs.{needs}
-use Rattle.hop_judge.proofs.Done.{call-refused}
-use Rattle.hop_ask.proofs.Asked.{Counted, status-fine, status-counts, status-ready, status-asked}
+use Rattle.hop_judge.proofs.Judging.{call-refused}
+use Rattle.hop_ask.proofs.Asked.{Counted, status-counts, status-ready, status-asked}
 use Rattle.hop_ask.proofs.status.Statement.{statement}
 use Rattle.hop_ask.proofs.status.Tie as tie
 
 -- The five numbers as the code has them where all are counted.
 counted : (c : tie.After-queued)
-    → let at-nodes = c .before .before .before .before in
-    let at = at-nodes .before .before .before .before .before .before .args in
-    Counted (at .s .now) (at-nodes .nodes .result) (at .u) (c .before .before .before .waiting-for .result) (c .before .before .waiting-from .result) (c .before .reached .result) (c .queued .result)
+    → let at-n = c .before .before .before .before .before in
+    let at = at-n .before .before .before .before .before .before .args in
+    Counted (at .s .now) (at-n .n .given .0 .0) (at .u) (c .before .before .before .waiting-for .result) (c .before .before .waiting-from .result) (c .before .reached .result) (c .queued .result)
 counted c =
     record {
-      claim = c .before .before .before .before .nodes .ensures;
       for-it = c .before .before .before .waiting-for .ensures .0;
       from-it = c .before .before .waiting-from .ensures .0;
       reaches = c .before .reached .ensures .0;
@@ -22,17 +21,14 @@ counted c =
 judge-status-requires : tie.Need-judge-status-requires
 judge-status-requires c κs = search needs
 
-same-length : tie.Need-same-length
-same-length c = search needs
+enum-known-c : tie.Need-enum-known-c
+enum-known-c c = search needs
 
-returns : tie.Need-returns
-returns c = call-refused _ _ _ (c .before .judge-status .ensures) (c .if1 .taken)
-
-nodes-requires : tie.Need-nodes-requires
-nodes-requires c κs = status-fine _ _ _ (c .before .judge-status .ensures) (c .if1 .left) .some
+enum-known-n : tie.Need-enum-known-n
+enum-known-n c = search needs
 
 waiting-for-requires : tie.Need-waiting-for-requires
-waiting-for-requires c κs = status-counts _ _ _ (c .before .before .judge-status .ensures) (c .before .if1 .left) (c .nodes .ensures)
+waiting-for-requires c κs = status-counts _ _ _ (c .before .before .before .judge-status .ensures) (c .before .n .given .1)
 
 waiting-from-requires : tie.Need-waiting-from-requires
 waiting-from-requires c κs = waiting-for-requires (c .before) κs
@@ -45,8 +41,14 @@ queued-requires c κs = reached-requires (c .before) κs .0
 
 write-status-requires : tie.Need-write-status-requires
 write-status-requires c κs =
-    let at-if1 = c .before .before .before .before .before .before in
-    status-ready _ _ _ (at-if1 .before .judge-status .ensures) (at-if1 .if1 .left) (counted (c .before))
+    let at-n = c .before .before .before .before .before .before in
+    status-ready _ _ _ (at-n .before .before .judge-status .ensures) (at-n .n .given .1) (counted (c .before))
+
+same-length : tie.Need-same-length
+same-length c = search needs
+
+returns : tie.Need-returns
+returns c = call-refused _ _ _ _ (c .before .before .before .judge-status .ensures) (c .before .c .given .1)
 
 same-length-2 : tie.Need-same-length-2
 same-length-2 c = search needs
@@ -55,21 +57,22 @@ returns-2 : tie.Need-returns-2
 returns-2 c =
     let at-write-status = c .before .before in
     let at-queued = at-write-status .before .before in
-    let at-if1 = at-queued .before .before .before .before .before in
-    status-asked _ _ _ (at-if1 .before .judge-status .ensures) (at-if1 .if1 .left) (counted at-queued) (at-write-status .write-status .ensures)
+    let at-n = at-queued .before .before .before .before .before in
+    status-asked _ _ _ (at-n .before .before .judge-status .ensures) (at-n .n .given .1) (counted at-queued) (at-write-status .write-status .ensures)
 
 pub status-spec : {M : Type 1} → statement M
 status-spec =
     tie.close
     (tie.spec
     judge-status-requires
-    same-length
-    returns
-    nodes-requires
+    enum-known-c
+    enum-known-n
     waiting-for-requires
     waiting-from-requires
     reached-requires
     queued-requires
     write-status-requires
+    same-length
+    returns
     same-length-2
     returns-2)

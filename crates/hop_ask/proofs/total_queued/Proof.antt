@@ -1,9 +1,9 @@
 -- `total_queued` meets its contract: it is refused by its number, or answers what it counts. Assumes nothing.
-use mathlib.Core.List.{[]}
 use borrow.Author.Needs.{needs}
+use mathlib.Core.List.{[]}
 use Rattle.hop_rule.specs.Calls.{refusals}
-use Rattle.hop_judge.proofs.Known.{fine-room, fine-known}
-use Rattle.hop_judge.proofs.Done.{call-refused}
+use Rattle.hop_judge.proofs.Judging.{call-refused}
+use Rattle.hop_judge.proofs.Known.{room-known}
 use Rattle.hop_ask.proofs.Asked.{total-asked}
 use Rattle.hop_ask.proofs.total_queued.Statement.{statement}
 use Rattle.hop_ask.proofs.total_queued.Tie as tie
@@ -11,32 +11,36 @@ use Rattle.hop_ask.proofs.total_queued.Tie as tie
 judge-state-requires : tie.Need-judge-state-requires
 judge-state-requires c κs = search needs
 
-returns : tie.Need-returns
-unfolding refusals
-returns c = call-refused _ _ _ (c .before .judge-state .ensures) (c .if1 .taken)
+enum-known-c : tie.Need-enum-known-c
+enum-known-c c = search needs
 
-nodes-requires : tie.Need-nodes-requires
-nodes-requires c κs = fine-known (c .before .before .before .args .s .now) [] (c .before .judge-state .ensures) (c .if1 .left) .some
+enum-known-n : tie.Need-enum-known-n
+enum-known-n c = search needs
 
 queued-requires : tie.Need-queued-requires
-queued-requires c κs = fine-room (fine-known _ [] (c .before .before .judge-state .ensures) (c .before .if1 .left)) (c .nodes .ensures)
+queued-requires c κs = room-known _ [] (c .before .before .before .judge-state .ensures) (c .before .n .given .1)
 
-cast-t6 : tie.Need-cast-t6
-cast-t6 c = search needs
+cast-t7 : tie.Need-cast-t7
+cast-t7 c = search needs
+
+returns : tie.Need-returns
+unfolding refusals
+returns c = call-refused _ _ _ _ (c .before .before .before .judge-state .ensures) (c .before .c .given .1)
 
 returns-2 : tie.Need-returns-2
+unfolding refusals
 returns-2 c =
-    let at-nodes = c .before in
-    let at-if1 = at-nodes .before in
-    total-asked _ (at-if1 .before .judge-state .ensures) (at-if1 .if1 .left) (at-nodes .nodes .ensures) (c .queued .ensures .0)
+    let at-n = c .before .before in
+    total-asked _ (at-n .n .given .1) (at-n .before .before .judge-state .ensures) (c .queued .ensures .0)
 
 pub total-queued-spec : {M : Type 1} → statement M
 total-queued-spec =
     tie.close
     (tie.spec
     judge-state-requires
-    returns
-    nodes-requires
+    enum-known-c
+    enum-known-n
     queued-requires
-    cast-t6
+    cast-t7
+    returns
     returns-2)

@@ -1,66 +1,70 @@
--- `judge_state` meets its contract: its five tests are the state's refusals, in their order, by the count that the first byte claims. Assumes nothing.
-use mathlib.Core.Logic.{inl, inr}
-use native.Mathlib.Omega.{arith}
-use borrow.Author.Tests.{not-true, not-false}
+-- `judge_state` meets its contract: a buffer that is not empty is judged as for making a state of as many nodes as it claims, and then by the check. Assumes nothing.
 use borrow.Author.Needs.{needs}
-use Rattle.hop_judge.proofs.Judging.{empty-state, bad-state, short-state, unsound-state, sound-state}
+use mathlib.Core.Path.{sym, ap, _∙_}
+use mathlib.Core.Bool.{not}
+use native.Mathlib.Omega.{arith}
+use borrow.Author.Tests.{eq-eqb}
+use Rattle.hop_rule.specs.Calls.{empty}
+use Rattle.hop_judge.proofs.Judging.{gone, first-refuses, refused-already, judged-next, claimed}
+use Rattle.hop_judge.proofs.Known.{room-made}
+use Rattle.hop_judge.specs.Verdict.{verdict}
 use Rattle.hop_judge.proofs.judge_state.Statement.{statement}
 use Rattle.hop_judge.proofs.judge_state.Tie as tie
 
 returns : tie.Need-returns
-returns c = empty-state (c .before .before .args .s .now) (c .if1 .taken)
+unfolding verdict
+returns c = first-refuses (empty (c .before .before .args .s .now)) _ _ (eq-eqb _ _ (c .if1 .taken))
 
-nodes-requires : tie.Need-nodes-requires
-nodes-requires c κs = search needs
+shared-slice-read-wide : tie.Need-shared-slice-read-wide
+shared-slice-read-wide c = search needs
+
+wide-requires : tie.Need-wide-requires
+wide-requires c κs = search needs
+
+judge-make-requires : tie.Need-judge-make-requires
+judge-make-requires c κs = search needs
+
+enum-known-n : tie.Need-enum-known-n
+enum-known-n c = search needs
+
+is-sound-requires : tie.Need-is-sound-requires
+is-sound-requires c κs =
+    let at-make = c .before .before .before in
+    let at-wide = at-make .before in
+    let same = gone _ _ (at-make .judge-make .ensures) (c .before .n .given .1) .1 in
+    (rw same (room-made _ _ (at-make .judge-make .ensures) (c .before .n .given .1)), sym (same ∙ at-wide .wide .ensures .0))
+
+unless-requires : tie.Need-unless-requires
+unless-requires c κs = search needs
+
+enum-told : tie.Need-enum-told
+enum-told c = search needs
 
 returns-2 : tie.Need-returns-2
 returns-2 c =
-    let at-nodes = c .before in
-    let at-if1 = at-nodes .before in
-    bad-state (at-if1 .before .before .args .s .now) (at-if1 .if1 .left) (at-nodes .nodes .ensures) (inl (c .if2 .taken))
+    let at-n = c .before .before .before in
+    let at-make = at-n .before .before in
+    let at-wide = at-make .before in
+    let judged = claimed _ (at-wide .before .before .if1 .left) (at-wide .wide .ensures .0) (at-make .judge-make .ensures) in
+    judged-next _ _ judged _ (omega arith) (at-n .n .given .1) (λ claim. ap not (c .before .is-sound .ensures)) (c .unless .ensures)
 
 returns-3 : tie.Need-returns-3
 returns-3 c =
-    let at-nodes = c .before .before in
-    let at-if1 = at-nodes .before in
-    bad-state (at-if1 .before .before .args .s .now) (at-if1 .if1 .left) (at-nodes .nodes .ensures) (inr (c .if3 .taken))
-
-size-requires : tie.Need-size-requires
-size-requires c κs = search needs
-
-returns-4 : tie.Need-returns-4
-returns-4 c =
-    let at-nodes = c .before .before .before .before in
-    let at-if1 = at-nodes .before in
-    short-state (at-if1 .before .before .args .s .now) (at-if1 .if1 .left) (at-nodes .nodes .ensures) (omega arith) (omega arith) (omega arith)
-
-is-sound-requires : tie.Need-is-sound-requires
-is-sound-requires c κs = search needs
-
-returns-5 : tie.Need-returns-5
-returns-5 c =
-    let at-nodes = c .before .before .before .before .before .before in
-    let at-if1 = at-nodes .before in
-    let judged = c .before .is-sound .ensures in
-    unsound-state (at-if1 .before .before .args .s .now) (at-if1 .if1 .left) (at-nodes .nodes .ensures) (omega arith) (omega arith) (omega arith) judged (not-true _ (c .if5 .taken))
-
-returns-6 : tie.Need-returns-6
-returns-6 c =
-    let at-nodes = c .before .before .before .before .before .before in
-    let at-if1 = at-nodes .before in
-    let judged = c .before .is-sound .ensures in
-    sound-state (at-if1 .before .before .args .s .now) (at-if1 .if1 .left) (at-nodes .nodes .ensures) (omega arith) (omega arith) (omega arith) judged (not-false _ (c .if5 .left))
+    let at-make = c .before .before in
+    let at-wide = at-make .before in
+    refused-already _ _ (claimed _ (at-wide .before .before .if1 .left) (at-wide .wide .ensures .0) (at-make .judge-make .ensures)) _ (c .enum-told .given .1)
 
 pub judge-state-spec : {M : Type 1} → statement M
 judge-state-spec =
     tie.close
     (tie.spec
     returns
-    nodes-requires
-    returns-2
-    returns-3
-    size-requires
-    returns-4
+    shared-slice-read-wide
+    wide-requires
+    judge-make-requires
+    enum-known-n
     is-sound-requires
-    returns-5
-    returns-6)
+    unless-requires
+    enum-told
+    returns-2
+    returns-3)

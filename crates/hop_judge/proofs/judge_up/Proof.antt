@@ -1,46 +1,48 @@
 -- `judge_up` meets its contract: where the ends pass, the link's byte decides, and 1 is refused. Assumes nothing.
-use native.Mathlib.Omega.{arith}
 use borrow.Author.Needs.{needs}
+use mathlib.Core.Path.{ap, _∙_}
+use native.Mathlib.Omega.{arith}
+use lib.Dec.{eqb}
 use Rattle.hop_rule.specs.Calls.{refusals}
-use Rattle.hop_judge.proofs.Judging.{refused-already, refused-next, passed-next, link-up, link-down}
-use Rattle.hop_judge.proofs.Known.{fine-known, cell-ready}
+use Rattle.hop_cells.proofs.Read.{link-read}
+use Rattle.hop_judge.proofs.Judging.{refused-already, judged-next}
+use Rattle.hop_judge.proofs.Known.{cell-ready}
 use Rattle.hop_judge.proofs.judge_up.Statement.{statement}
 use Rattle.hop_judge.proofs.judge_up.Tie as tie
 
 judge-ends-requires : tie.Need-judge-ends-requires
 judge-ends-requires c κs = search needs
 
-returns : tie.Need-returns
-unfolding refusals
-returns c = refused-already _ (c .before .judge-ends .ensures) _ (c .if1 .taken)
-
-nodes-requires : tie.Need-nodes-requires
-nodes-requires c κs = fine-known (c .before .before .before .args .s .now) _ (c .before .judge-ends .ensures) (c .if1 .left) .some
+enum-known-n : tie.Need-enum-known-n
+enum-known-n c = search needs
 
 get2-requires : tie.Need-get2-requires
-get2-requires c κs = cell-ready _ _ _ _ (c .before .before .judge-ends .ensures) (c .before .if1 .left) (c .nodes .ensures)
+get2-requires c κs = cell-ready _ _ _ _ (c .before .before .before .judge-ends .ensures) (c .before .n .given .1)
+
+unless-requires : tie.Need-unless-requires
+unless-requires c κs = search needs
+
+enum-told : tie.Need-enum-told
+enum-told c = search needs
+
+returns : tie.Need-returns
+unfolding refusals
+returns c =
+    let at-n = c .before .before .before in
+    judged-next _ _ (at-n .before .before .judge-ends .ensures) _ (omega arith) (at-n .n .given .1) (λ claim. ap (λ x. eqb x 1) (c .before .get2 .ensures .0 ∙ link-read _ claim _ _)) (c .unless .ensures)
 
 returns-2 : tie.Need-returns-2
 unfolding refusals
-returns-2 c =
-    let at-if1 = c .before .before .before in
-    let test = link-up _ (c .before .before .nodes .ensures) _ _ (c .before .get2 .ensures .0) (c .if2 .taken) in
-    refused-next _ (at-if1 .before .judge-ends .ensures) _ (omega arith) (at-if1 .if1 .left) test
-
-returns-3 : tie.Need-returns-3
-unfolding refusals
-returns-3 c =
-    let at-if1 = c .before .before .before in
-    let test = link-down _ (c .before .before .nodes .ensures) _ _ (c .before .get2 .ensures .0) (c .if2 .left) in
-    passed-next _ (at-if1 .before .judge-ends .ensures) _ (omega arith) (at-if1 .if1 .left) test
+returns-2 c = refused-already _ _ (c .before .before .judge-ends .ensures) _ (c .enum-told .given .1)
 
 pub judge-up-spec : {M : Type 1} → statement M
 judge-up-spec =
     tie.close
     (tie.spec
     judge-ends-requires
-    returns
-    nodes-requires
+    enum-known-n
     get2-requires
-    returns-2
-    returns-3)
+    unless-requires
+    enum-told
+    returns
+    returns-2)
