@@ -1,5 +1,5 @@
 -- What is known of a buffer and of two numbers where a call goes on. Assumes nothing.
-use mathlib.Core.Path.{_≡_, refl, sym, _∙_}
+use mathlib.Core.Path.{_≡_, refl}
 use mathlib.Core.List.{List, [], _∷_}
 use Prim.Native.Nat.{ℕ, _<_, _*_}
 use native.Mathlib.Omega.{arith}

@@ -1,41 +1,18 @@
 -- What it says that a buffer's state was checked: the buffer is fine, and its routes are printed. Assumes nothing.
-use mathlib.Core.Path.{_≡_, refl, sym, ap, _∙_}
+use mathlib.Core.Path.{_≡_, sym, _∙_}
 use mathlib.Core.Logic.{_≢_}
 use mathlib.Core.List.{List, []}
 use Prim.Native.Nat.{ℕ}
-use native.Mathlib.Decide.{ℕ-discrete}
 use borrow.Author.Tests.{eq-eqb, ne-eqb}
-use Rattle.hop_rule.specs.Stored.{read}
-use Rattle.hop_rule.specs.Calls.{Call, make, check, up, down, deliver, pass, run, distance, downstream, queueLength, totalQueued, status, writeEvent, Outcome, judge, refusals, done, outcome}
+use Rattle.hop_rule.specs.Stored.{nodes, read}
+use Rattle.hop_rule.specs.Calls.{check, judge, refusals, onState, outcome}
 use Rattle.hop_laws.specs.Fine.{Fine}
-use Rattle.hop_laws.proofs.Calls.{outcome-done, outcome-refused, state-fine}
+use Rattle.hop_laws.proofs.Calls.{outcome-number, state-fine}
+use Rattle.hop_judge.specs.declared.Judged.{Judged}
+use Rattle.hop_judge.specs.declared.Judged.the-variants.{Go, Refused}
+use Rattle.hop_judge.specs.Verdict.{verdict}
+use Rattle.hop_judge.proofs.Judging.{gone, stopped}
 use Rattle.hop_replay.specs.Replay.{routeLines, routes}
-
--- What is done has the number 0, so a call's number is what its refusals are judged to be.
-pub outcome-number : (c : Call) (s out : List ℕ) → outcome c s out .number ≡ judge (refusals c s out)
-unfolding done
-outcome-number c s out = go (ℕ-discrete (judge (refusals c s out)) 0)
-  where
-    zero-done : done c s out .number ≡ 0
-    zero-done = elim c [
-      | make n ↦ refl
-      | check ↦ refl
-      | up a b ↦ refl
-      | down a b ↦ refl
-      | deliver w u ↦ refl
-      | pass ↦ refl
-      | run k ↦ refl
-      | distance u v ↦ refl
-      | downstream u v ↦ refl
-      | queueLength w u ↦ refl
-      | totalQueued ↦ refl
-      | status u ↦ refl
-      | writeEvent e ↦ refl
-    ]
-
-    go : Dec (judge (refusals c s out) ≡ 0) → outcome c s out .number ≡ judge (refusals c s out)
-    go (yes z) = ap (λ (o : Outcome). o .number) (outcome-done c s out z) ∙ zero-done ∙ sym z
-    go (no f) = ap (λ (o : Outcome). o .number) (outcome-refused c s out f)
 
 module _ (s : List ℕ) where
   pub checked-fine : outcome check s [] .number ≡ 0 → Fine s
@@ -49,3 +26,13 @@ module _ (s : List ℕ) where
   pub routes-none : outcome check s [] .number ≢ 0 → routes s ≡ []
   unfolding routes
   routes-none f = rw (ne-eqb _ _ f)
+
+  -- The same by what the code judged.
+  module _ {j : Judged} (e : j ≡ verdict (judge (onState s [])) (nodes s)) where
+    pub routes-go : {n : ℕ} → j ≡ Go n → routes s ≡ routeLines (read s)
+    unfolding refusals
+    routes-go g = routes-some (outcome-number check s [] ∙ gone _ _ e g .0)
+
+    pub routes-refused : {k : ℕ} → j ≡ Refused k → routes s ≡ []
+    unfolding refusals
+    routes-refused f = let (same, some) = stopped _ _ e f in routes-none (λ z. some (same ∙ sym (outcome-number check s []) ∙ z))

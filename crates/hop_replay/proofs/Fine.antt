@@ -24,12 +24,12 @@ use Rattle.hop_laws.proofs.Stored.{nodes-stored, length-stored}
 use Rattle.hop_laws.proofs.Sound.{sound-bytes-tells}
 use Rattle.hop_laws.proofs.Read.{stored-sound}
 use Rattle.hop_laws.proofs.Fresh.{fresh-sound}
-use Rattle.hop_laws.proofs.Calls.{judge-none, good-count, count-good, outcome-done, outcome-refused, state-fine}
+use Rattle.hop_laws.proofs.Calls.{judge-none, good-count, count-good, outcome-done, outcome-refused, state-fine, outcome-number}
 use Rattle.hop_rest.proofs.Frame.{deliver-n}
 use Rattle.hop_rest.proofs.Mended.{recompute-all-n}
 use Rattle.hop_rest.proofs.Kept.{deliver-keeps-sound, down-keeps-sound, up-keeps-sound, pass-keeps-sound}
 use Rattle.hop_replay.specs.Replay.{callOf, queued, events, routeLines, routes, played}
-use Rattle.hop_replay.proofs.Checked.{outcome-number, checked-fine, routes-some, routes-none}
+use Rattle.hop_replay.proofs.Checked.{checked-fine, routes-some, routes-none}
 use Rattle.hop_replay.proofs.Left.{events-found, events-end, events-refused}
 
 -- ---- one event

@@ -21,13 +21,13 @@ use Rattle.hop_rule.specs.Records.{wordAt, kindOf, known, lengthOf, readEvent}
 use Rattle.hop_rule.specs.Calls.{Refusal, Outcome, make, check, totalQueued, judge, refusals, answerAt, done, outcome}
 use Rattle.hop_laws.proofs.Rule.{distanceOf-most, Current, sound-current, current-own, current-none, current-gives}
 use Rattle.hop_laws.proofs.Ceiling.{total-fits}
-use Rattle.hop_laws.proofs.Calls.{outcome-done, outcome-refused, state-fine}
+use Rattle.hop_laws.proofs.Calls.{outcome-done, outcome-refused, state-fine, outcome-number}
 use Rattle.hop_laws.proofs.Records.{found-place}
 use Rattle.hop_text.specs.Text.{header}
 use Rattle.hop_text.specs.Writing.{Ends}
 use Rattle.hop_text.proofs.Short.{event-short, route-short}
 use Rattle.hop_replay.specs.Replay.{callOf, queued, appliedLine, events, routeAt, routesFrom, routeLines, routes, played, replayed}
-use Rattle.hop_replay.proofs.Checked.{outcome-number, checked-fine, routes-some, routes-none}
+use Rattle.hop_replay.proofs.Checked.{checked-fine, routes-some, routes-none}
 use Rattle.hop_replay.proofs.Left.{events-found, events-end, events-refused}
 
 -- ---- the numbers of an event line

@@ -3,8 +3,9 @@
 use hop_ask::Answer;
 use hop_ask::total_queued;
 use hop_cells::get2;
-use hop_cells::nodes;
 use hop_core::PassAnswer;
+use hop_judge::Judged;
+use hop_judge::judge_state;
 use hop_reader::read_from;
 use hop_rule::Event;
 use hop_rule::Reading;
@@ -137,10 +138,10 @@ fn put_routes(state: &[u8], out: &mut [u8], at: usize) -> usize
     requires { ⌜ Ends (routes (now state)) at ⌝ }
     ensures { λ r. ⌜ Wrote (routes (now (state .entry))) (now (out .entry)) at (now (out .exit)) r ⌝ }
 {
-    if hop_core::check(state) != 0 {
-        return at;
+    match judge_state(state) {
+        Judged::Refused(_) => at,
+        Judged::Go(n) => put_all_routes(state, n, out, at),
     }
-    put_all_routes(state, nodes(state), out, at)
 }
 
 // The part of a script that is read.

@@ -1,6 +1,6 @@
 -- `total_queued` meets its contract: it is refused by its number, or answers what it counts. Assumes nothing.
-use borrow.Author.Needs.{needs}
 use mathlib.Core.List.{[]}
+use borrow.Author.Needs.{needs}
 use Rattle.hop_rule.specs.Calls.{refusals}
 use Rattle.hop_judge.proofs.Judging.{call-refused}
 use Rattle.hop_judge.proofs.Known.{room-known}

@@ -1,6 +1,6 @@
 -- `pass` meets its contract: it is refused by its number, or what waited is delivered and the pass's bytes are the outcome's. Assumes nothing.
-use borrow.Author.Needs.{needs}
 use mathlib.Core.List.{[]}
+use borrow.Author.Needs.{needs}
 use Rattle.hop_rule.specs.Calls.{refusals}
 use Rattle.hop_judge.proofs.Judging.{call-refused}
 use Rattle.hop_judge.proofs.Known.{room-known}

@@ -1,7 +1,7 @@
 -- `run` meets its contract: it is refused by its number, or the passes made under the allowance are the outcome's. Assumes nothing.
-use borrow.Author.Needs.{needs}
 use mathlib.Core.List.{[]}
 use native.Mathlib.Omega.{arith}
+use borrow.Author.Needs.{needs}
 use Rattle.hop_rule.specs.Calls.{refusals}
 use Rattle.hop_judge.proofs.Judging.{call-refused}
 use Rattle.hop_judge.proofs.Known.{room-known}

@@ -1,8 +1,8 @@
 -- `judge_deliver` meets its contract: where the link is up, the queue's length byte decides, and 0 is refused. Assumes nothing.
-use borrow.Author.Needs.{needs}
 use mathlib.Core.Path.{ap, _∙_}
 use native.Mathlib.Omega.{arith}
 use lib.Dec.{eqb}
+use borrow.Author.Needs.{needs}
 use Rattle.hop_rule.specs.Calls.{refusals}
 use Rattle.hop_cells.proofs.Read.{length-read}
 use Rattle.hop_judge.proofs.Judging.{refused-already, judged-next}

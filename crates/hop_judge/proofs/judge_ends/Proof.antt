@@ -1,7 +1,7 @@
 -- `judge_ends` meets its contract: where both are nodes, it refuses them if they are one. Assumes nothing.
-use borrow.Author.Needs.{needs}
-use native.Mathlib.Omega.{arith}
 use mathlib.Core.Path.{refl}
+use native.Mathlib.Omega.{arith}
+use borrow.Author.Needs.{needs}
 use Rattle.hop_judge.proofs.Judging.{refused-already, judged-next}
 use Rattle.hop_judge.proofs.judge_ends.Statement.{statement}
 use Rattle.hop_judge.proofs.judge_ends.Tie as tie

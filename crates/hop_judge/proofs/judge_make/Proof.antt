@@ -1,14 +1,14 @@
 -- `judge_make` meets its contract: it refuses a count that is not 1 to 40, then a buffer with no room for as many nodes. Assumes nothing.
-use borrow.Author.Needs.{needs}
 use mathlib.Core.Path.{_∙_}
 use mathlib.Core.Logic.{inl, inr}
 use mathlib.Core.List.{[], _∷_}
 use native.Mathlib.Omega.{arith}
+use borrow.Author.Needs.{needs}
 use Rattle.hop_rule.specs.Stored.{size}
 use Rattle.hop_rule.specs.Calls.{judge, refusals, badCount, short}
 use Rattle.hop_laws.proofs.Calls.{tells-bad-count, count-good}
-use Rattle.hop_judge.proofs.Judging.{first-refuses, first-passes}
 use Rattle.hop_judge.specs.Verdict.{verdict}
+use Rattle.hop_judge.proofs.Judging.{first-refuses, first-passes}
 use Rattle.hop_judge.proofs.judge_make.Statement.{statement}
 use Rattle.hop_judge.proofs.judge_make.Tie as tie
 

@@ -1,8 +1,8 @@
 -- `judge_node` meets its contract: where the state passes, it refuses a number that is not below the node count. Assumes nothing.
-use borrow.Author.Needs.{needs}
 use mathlib.Core.Path.{ap}
 use native.Mathlib.Omega.{arith}
 use lib.Dec.{leb}
+use borrow.Author.Needs.{needs}
 use Rattle.hop_judge.proofs.Judging.{refused-already, judged-next}
 use Rattle.hop_judge.proofs.judge_node.Statement.{statement}
 use Rattle.hop_judge.proofs.judge_node.Tie as tie

@@ -1,8 +1,8 @@
 -- `judge_pair` meets its contract: where the first node passes, the second is judged as the first was. Assumes nothing.
-use borrow.Author.Needs.{needs}
 use mathlib.Core.Path.{ap}
 use native.Mathlib.Omega.{arith}
 use lib.Dec.{leb}
+use borrow.Author.Needs.{needs}
 use Rattle.hop_judge.proofs.Judging.{refused-already, judged-next}
 use Rattle.hop_judge.proofs.judge_pair.Statement.{statement}
 use Rattle.hop_judge.proofs.judge_pair.Tie as tie

@@ -1,13 +1,13 @@
 -- `judge_state` meets its contract: a buffer that is not empty is judged as for making a state of as many nodes as it claims, and then by the check. Assumes nothing.
-use borrow.Author.Needs.{needs}
 use mathlib.Core.Path.{sym, ap, _∙_}
 use mathlib.Core.Bool.{not}
 use native.Mathlib.Omega.{arith}
 use borrow.Author.Tests.{eq-eqb}
+use borrow.Author.Needs.{needs}
 use Rattle.hop_rule.specs.Calls.{empty}
+use Rattle.hop_judge.specs.Verdict.{verdict}
 use Rattle.hop_judge.proofs.Judging.{gone, first-refuses, refused-already, judged-next, claimed}
 use Rattle.hop_judge.proofs.Known.{room-made}
-use Rattle.hop_judge.specs.Verdict.{verdict}
 use Rattle.hop_judge.proofs.judge_state.Statement.{statement}
 use Rattle.hop_judge.proofs.judge_state.Tie as tie
 

@@ -1,7 +1,7 @@
 -- `judge_status` meets its contract: where the node passes, it refuses an output of less than 14 bytes. Assumes nothing.
-use borrow.Author.Needs.{needs}
-use native.Mathlib.Omega.{arith}
 use mathlib.Core.Path.{refl}
+use native.Mathlib.Omega.{arith}
+use borrow.Author.Needs.{needs}
 use Rattle.hop_rule.specs.Calls.{refusals}
 use Rattle.hop_judge.proofs.Judging.{refused-already, judged-next}
 use Rattle.hop_judge.proofs.judge_status.Statement.{statement}

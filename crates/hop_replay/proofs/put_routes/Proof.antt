@@ -1,58 +1,51 @@
--- `put_routes` meets its contract: a state that was checked has room, so its cells can be read. Assumes nothing.
-use mathlib.Core.Path.{sym, ap, _∙_}
+-- `put_routes` meets its contract: where a state is judged to be there, its cells can be read. Assumes nothing.
+use mathlib.Core.Path.{sym}
+use mathlib.Core.List.{[]}
 use borrow.Author.Needs.{needs}
-use Rattle.hop_rule.specs.Calls.{Outcome}
+use Rattle.hop_judge.proofs.Known.{claim-known, room-known}
 use Rattle.hop_text.proofs.Writing.{wrote-nothing}
-use Rattle.hop_replay.proofs.Checked.{checked-fine, routes-some, routes-none}
+use Rattle.hop_replay.proofs.Checked.{routes-go, routes-refused}
 use Rattle.hop_replay.proofs.put_routes.Statement.{statement}
 use Rattle.hop_replay.proofs.put_routes.Tie as tie
 
-check-requires : tie.Need-check-requires
-check-requires c κs = search needs
+judge-state-requires : tie.Need-judge-state-requires
+judge-state-requires c κs = search needs
 
-returns : tie.Need-returns
-returns c =
-    let at-check = c .before in
-    let at-args = at-check .before .before .before in
-    rw (routes-none (at-args .args .state .now) (λ z. c .if1 .taken (ap (λ (o : Outcome). o .number) (at-check .check .ensures) ∙ z))) (wrote-nothing _ _)
+enum-told : tie.Need-enum-told
+enum-told c = search needs
 
-nodes-requires : tie.Need-nodes-requires
-nodes-requires c κs =
-    let at-check = c .before in
-    let at-args = at-check .before .before .before in
-    checked-fine (at-args .args .state .now) (ap (λ (o : Outcome). o .number) (sym (at-check .check .ensures)) ∙ c .if1 .left) .some
+enum-known-n : tie.Need-enum-known-n
+enum-known-n c = search needs
 
 put-all-routes-requires : tie.Need-put-all-routes-requires
 put-all-routes-requires c κs =
-    let at-nodes = c .before in
-    let at-if1 = at-nodes .before in
-    let at-check = at-if1 .before in
-    let at-args = at-check .before .before .before in
+    let at-n = c .before .before in
+    let at-args = at-n .before .before .before .before .before in
     let s = at-args .args .state .now in
-    let checked = ap (λ (o : Outcome). o .number) (sym (at-check .check .ensures)) ∙ at-if1 .if1 .left in
-    let fine = checked-fine s checked in
-    rw (at-nodes .nodes .ensures) (record { most = fine .most; fits = fine .room }, rw (routes-some s checked) at (at-args .pre))
+    let judged = at-n .before .before .judge-state .ensures in
+    let go = at-n .n .given .1 in
+    (room-known s [] judged go, sym (claim-known s [] judged go), rw (routes-go s judged go) at (at-args .pre))
+
+returns : tie.Need-returns
+returns c = rw (routes-refused (c .before .before .before .before .before .args .state .now) (c .before .before .judge-state .ensures) (c .enum-told .given .1)) (wrote-nothing _ _)
 
 same-length : tie.Need-same-length
 same-length c = search needs
 
 returns-2 : tie.Need-returns-2
 returns-2 c =
-    let at-put-all-routes = c .before .before in
-    let at-nodes = at-put-all-routes .before .before in
-    let at-if1 = at-nodes .before in
-    let at-check = at-if1 .before in
-    let at-args = at-check .before .before .before in
-    let checked = ap (λ (o : Outcome). o .number) (sym (at-check .check .ensures)) ∙ at-if1 .if1 .left in
-    rw (routes-some (at-args .args .state .now) checked, ← at-nodes .nodes .ensures) (at-put-all-routes .put-all-routes .ensures)
+    let at-routes = c .before .before in
+    let at-n = at-routes .before .before .before in
+    rw (routes-go _ (at-n .before .before .judge-state .ensures) (at-n .n .given .1)) (at-routes .put-all-routes .ensures)
 
 pub put-routes-spec : {M : Type 1} → statement M
 put-routes-spec =
     tie.close
     (tie.spec
-    check-requires
-    returns
-    nodes-requires
+    judge-state-requires
+    enum-told
+    enum-known-n
     put-all-routes-requires
+    returns
     same-length
     returns-2)
