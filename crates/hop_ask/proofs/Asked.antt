@@ -7,7 +7,7 @@ use lib.ListN.{length}
 use borrow.Author.Tests.{ltb-false}
 use Rattle.hop_rule.specs.declared.Table.the-variants.{Distances, Downstreams, Lengths}
 use Rattle.hop_rule.specs.Rule as rule
-use Rattle.hop_rule.specs.Stored.{nodes, read}
+use Rattle.hop_rule.specs.Stored.{nodes, readAs, read}
 use Rattle.hop_rule.specs.Records.{recordOf, statusRecord, written}
 use Rattle.hop_rule.specs.Calls.{Call, distance, downstream, queueLength, totalQueued, status, judge, refusals, short, done, outcome}
 use Rattle.hop_laws.specs.Fine.{Fine}
@@ -93,7 +93,7 @@ module _ (s out : List ℕ) (u : ℕ) {j : Judged} (e : j ≡ verdict (judge (re
 
     -- Soundness makes them fit.
     pub status-ready : (14 ≤ length out) × (u < 65536) × (for < 65536) × (from < 65536) × (reached < 65536) × (total < 65536)
-    unfolding read
+    unfolding readAs
     status-ready =
         let sound = fine .sound .state in (
           status-room,

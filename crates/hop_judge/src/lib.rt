@@ -1,15 +1,15 @@
 // Refusals, in document 01's order: each function judges what the one that it calls left open. No byte is changed, and the first byte is read here only.
 
 use hop_cells::get2;
+use hop_cells::nodes;
 use hop_cells::size;
-use hop_cells::wide;
 use hop_rule::Table;
 use hop_sound::is_sound;
 ghost use mathlib.Core.Path.{_≡_};
 ghost use mathlib.Core.List.{[], _∷_};
 ghost use Prim.Native.Nat.{_<_};
 ghost use Rattle.hop_rule.specs.Words.{if_then_else_};
-ghost use Rattle.hop_rule.specs.Stored.{nodes};
+ghost use Rattle.hop_rule.specs.Stored as stored;
 ghost use Rattle.hop_rule.specs.Calls.{judge, refusals, onState, noNode, oneNode, make, up, down, deliver, status};
 ghost use Rattle.hop_judge.specs.Verdict.{verdict};
 
@@ -45,12 +45,12 @@ pub fn judge_make(s: &[u8], n: usize) -> Judged
 
 // The state's own: empty buffer 2, then 1 and 2 by the count that the first byte claims, not sound 3.
 pub fn judge_state(s: &[u8]) -> Judged
-    ensures { λ r. ⌜ r ≡ verdict (judge (onState (now (s .entry)) [])) (nodes (now (s .entry))) ⌝ }
+    ensures { λ r. ⌜ r ≡ verdict (judge (onState (now (s .entry)) [])) (stored.nodes (now (s .entry))) ⌝ }
 {
     if s.len() == 0 {
         return Judged::Refused(2);
     }
-    match judge_make(s, wide(s[0])) {
+    match judge_make(s, nodes(s)) {
         Judged::Go(n) => unless(!is_sound(s, n), 3, n),
         refused => refused,
     }
@@ -58,7 +58,7 @@ pub fn judge_state(s: &[u8]) -> Judged
 
 // Then a node number 4.
 pub fn judge_node(s: &[u8], a: usize) -> Judged
-    ensures { λ r. ⌜ r ≡ verdict (judge (onState (now (s .entry)) (noNode (now (s .entry)) a ∷ []))) (nodes (now (s .entry))) ⌝ }
+    ensures { λ r. ⌜ r ≡ verdict (judge (onState (now (s .entry)) (noNode (now (s .entry)) a ∷ []))) (stored.nodes (now (s .entry))) ⌝ }
 {
     match judge_state(s) {
         Judged::Go(n) => unless(n <= a, 4, n),
@@ -68,7 +68,7 @@ pub fn judge_node(s: &[u8], a: usize) -> Judged
 
 // Two of them.
 pub fn judge_pair(s: &[u8], a: usize, b: usize) -> Judged
-    ensures { λ r. ⌜ r ≡ verdict (judge (onState (now (s .entry)) (noNode (now (s .entry)) a ∷ noNode (now (s .entry)) b ∷ []))) (nodes (now (s .entry))) ⌝ }
+    ensures { λ r. ⌜ r ≡ verdict (judge (onState (now (s .entry)) (noNode (now (s .entry)) a ∷ noNode (now (s .entry)) b ∷ []))) (stored.nodes (now (s .entry))) ⌝ }
 {
     match judge_node(s, a) {
         Judged::Go(n) => unless(n <= b, 4, n),
@@ -78,7 +78,7 @@ pub fn judge_pair(s: &[u8], a: usize, b: usize) -> Judged
 
 // Both ends are one node 5.
 pub fn judge_ends(s: &[u8], a: usize, b: usize) -> Judged
-    ensures { λ r. ⌜ r ≡ verdict (judge (onState (now (s .entry)) (noNode (now (s .entry)) a ∷ noNode (now (s .entry)) b ∷ oneNode a b ∷ []))) (nodes (now (s .entry))) ⌝ }
+    ensures { λ r. ⌜ r ≡ verdict (judge (onState (now (s .entry)) (noNode (now (s .entry)) a ∷ noNode (now (s .entry)) b ∷ oneNode a b ∷ []))) (stored.nodes (now (s .entry))) ⌝ }
 {
     match judge_pair(s, a, b) {
         Judged::Go(n) => unless(a == b, 5, n),
@@ -88,7 +88,7 @@ pub fn judge_ends(s: &[u8], a: usize, b: usize) -> Judged
 
 // Link up where it is up 6.
 pub fn judge_up(s: &[u8], a: usize, b: usize) -> Judged
-    ensures { λ r. ⌜ r ≡ verdict (judge (refusals (up a b) (now (s .entry)) [])) (nodes (now (s .entry))) ⌝ }
+    ensures { λ r. ⌜ r ≡ verdict (judge (refusals (up a b) (now (s .entry)) [])) (stored.nodes (now (s .entry))) ⌝ }
 {
     match judge_ends(s, a, b) {
         Judged::Go(n) => unless(get2(s, n, Table::Links, a, b) == 1, 6, n),
@@ -98,7 +98,7 @@ pub fn judge_up(s: &[u8], a: usize, b: usize) -> Judged
 
 // Link down or delivery where it is down 7.
 pub fn judge_down(s: &[u8], a: usize, b: usize) -> Judged
-    ensures { λ r. ⌜ r ≡ verdict (judge (refusals (down a b) (now (s .entry)) [])) (nodes (now (s .entry))) ⌝ }
+    ensures { λ r. ⌜ r ≡ verdict (judge (refusals (down a b) (now (s .entry)) [])) (stored.nodes (now (s .entry))) ⌝ }
 {
     match judge_ends(s, a, b) {
         Judged::Go(n) => unless(get2(s, n, Table::Links, a, b) != 1, 7, n),
@@ -108,7 +108,7 @@ pub fn judge_down(s: &[u8], a: usize, b: usize) -> Judged
 
 // Delivery from an empty queue 8.
 pub fn judge_deliver(s: &[u8], w: usize, u: usize) -> Judged
-    ensures { λ r. ⌜ r ≡ verdict (judge (refusals (deliver w u) (now (s .entry)) [])) (nodes (now (s .entry))) ⌝ }
+    ensures { λ r. ⌜ r ≡ verdict (judge (refusals (deliver w u) (now (s .entry)) [])) (stored.nodes (now (s .entry))) ⌝ }
 {
     match judge_down(s, w, u) {
         Judged::Go(n) => unless(get2(s, n, Table::Lengths, w, u) == 0, 8, n),
@@ -118,7 +118,7 @@ pub fn judge_deliver(s: &[u8], w: usize, u: usize) -> Judged
 
 // Last an output that is too short 2.
 pub fn judge_status(s: &[u8], u: usize, out: &[u8]) -> Judged
-    ensures { λ r. ⌜ r ≡ verdict (judge (refusals (status u) (now (s .entry)) (now (out .entry)))) (nodes (now (s .entry))) ⌝ }
+    ensures { λ r. ⌜ r ≡ verdict (judge (refusals (status u) (now (s .entry)) (now (out .entry)))) (stored.nodes (now (s .entry))) ⌝ }
 {
     match judge_node(s, u) {
         Judged::Go(n) => unless(out.len() < 14, 2, n),
