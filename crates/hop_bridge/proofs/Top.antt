@@ -1,17 +1,14 @@
 -- The bridge, whole: on a buffer that no refusal of a state applies to, each move of the code leaves the stored form of the rule's state, and the bytes behind it as they were; and each count is the rule's.
 -- These are the laws that the public calls' proofs cite; this file can be read alone. Assumes nothing.
-use mathlib.Core.Path.{_≡_, refl, sym}
+use mathlib.Core.Path.{_≡_}
 use mathlib.Core.List.{List}
 use Prim.Native.Nat.{ℕ, _≤_, _<_}
 use lib.ListN.{length}
-use Rattle.hop_rule.specs.declared.Table.the-variants.{Distances, Downstreams, Lengths}
 use Rattle.hop_rule.specs.Rule as rule
-use Rattle.hop_rule.specs.Stored.{size, nodes, flat, read}
+use Rattle.hop_rule.specs.Stored.{size, nodes, read}
 use Rattle.hop_rule.specs.Calls.{restored}
 use Rattle.hop_laws.specs.Fine.{Fine}
-use Rattle.hop_laws.proofs.Words.{length-listed}
-use Rattle.hop_cells.specs.Cells.{get, get2}
-use Rattle.hop_steps.specs.Steps.{up, deliver, linkUp, linkDown, make}
+use Rattle.hop_steps.specs.Steps.{deliver, linkUp, linkDown, make}
 use Rattle.hop_runs.specs.Runs.{pass, waitingFor, waitingFrom, queued, reached, passes, made, delivered, ran, run}
 use Rattle.hop_bridge.proofs.Deliver.{deliver-sound}
 use Rattle.hop_bridge.proofs.Links.{linkUp-carries, linkDown-carries}

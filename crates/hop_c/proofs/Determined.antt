@@ -37,7 +37,8 @@ determined = record {
   total-queued = λ s. asked-fixed-answer _ _ _;
   status = λ s out u. asked-fixed _ _;
   write-event = λ out e. wrote-fixed _;
-  write-record = λ out r. wrote-fixed _;
+  numbers-of = λ e. is-fixed _;
+  write-kind = λ out kind first second. wrote-fixed _;
   read-event = λ s p. is-fixed _;
   read-next = λ s p x y q r h k. let same = h .0 ∙ sym (k .0) in (same, h .1 ∙ ap₂ placeAfter same refl ∙ sym (k .1));
   read-from = λ s p. is-fixed _;

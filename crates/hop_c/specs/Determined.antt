@@ -10,9 +10,10 @@ use Rattle.hop_rule.specs.Records.{readEvent, placeAfter}
 use Rattle.hop_rule.specs.Calls as call
 use Rattle.hop_rule.specs.Calls.{outcome}
 use Rattle.hop_rule.specs.Fixed.{Fixed, FixedAnswer}
+use Rattle.hop_records.specs.declared.Numbers.{Numbers}
 use Rattle.hop_records.specs.declared.Written.{Written}
 use Rattle.hop_records.specs.declared.Written.the-variants as answer-of-writing
-use Rattle.hop_records.specs.Writing.{wrote, tried}
+use Rattle.hop_records.specs.Writing.{wrote, numbersOf, wroteEvent}
 use Rattle.hop_reader.specs.declared.Step.{Step}
 use Rattle.hop_reader.specs.Stepping.{stepAt}
 use Rattle.hop_core.specs.declared.PassAnswer.{PassAnswer}
@@ -27,7 +28,7 @@ use Rattle.hop_ask.specs.Answers.{asked}
 use Rattle.hop_c.specs.declared.HopAnswer.{HopAnswer}
 use Rattle.hop_c.specs.declared.HopRan.{HopRan}
 use Rattle.hop_c.specs.declared.HopEvent.{HopEvent}
-use Rattle.hop_c.specs.Edge.{sizeOf, answer, ran, wroteEvent, reading}
+use Rattle.hop_c.specs.Edge.{sizeOf, answer, ran, reading}
 
 -- The calls of the core, with its own types.
 pub record Determined : Type 0 where
@@ -44,8 +45,8 @@ pub record Determined : Type 0 where
   pub total-queued : (s : List ℕ) → FixedAnswer (λ (a : Answer). asked a s [] ≡ outcome call.totalQueued s [])
   pub status : (s out : List ℕ) (u : ℕ) → Fixed (λ (a : Answer) (left : List ℕ). asked a s left ≡ outcome (call.status u) s out)
   pub write-event : (out : List ℕ) (e : Event) → Fixed (λ (w : Written) (left : List ℕ). wrote w left ≡ outcome (call.writeEvent e) [] out)
-  -- write_none, write_one and write_two: r is the record of the kind with its numbers
-  pub write-record : (out r : List ℕ) → Fixed (λ (w : Written) (left : List ℕ). wrote w left ≡ tried r out)
+  pub numbers-of : (e : Event) → FixedAnswer (λ (p : Numbers). p ≡ numbersOf e)
+  pub write-kind : (out : List ℕ) (kind first second : ℕ) → Fixed (λ (w : Written) (left : List ℕ). wrote w left ≡ wroteEvent kind first second out)
   pub read-event : (s : List ℕ) (p : ℕ) → FixedAnswer (λ (x : Reading). x ≡ readEvent s p)
   -- through a reader: what is left is its place
   pub read-next : (s : List ℕ) (p : ℕ) → Fixed (λ (x : Reading) (q : ℕ). (x ≡ readEvent s p) × (q ≡ placeAfter x p))

@@ -1,15 +1,12 @@
 -- What C callers get of a call's outcome: its number and its answers in a struct, a place for each. A contract equates the struct with this, and the bytes that the call leaves with the outcome's.
-use mathlib.Core.List.{List, []}
+use mathlib.Core.List.{List}
 use Prim.Native.Nat.{ℕ}
-use lib.Dec.{eqb}
 use lib.ListN.{getD}
 use Rattle.hop_rule.specs.Words.{if_then_else_}
-use Rattle.hop_rule.specs.declared.Event.{Event}
-use Rattle.hop_rule.specs.declared.Event.the-variants.{Make, Up, Down, Deliver, Pass}
 use Rattle.hop_rule.specs.declared.Reading.{Reading}
 use Rattle.hop_rule.specs.Stored.{size}
-use Rattle.hop_rule.specs.Records.{known, numberOf, answersOf}
-use Rattle.hop_rule.specs.Calls.{Outcome, badCount, refused, answerAt, outcome, writeEvent}
+use Rattle.hop_rule.specs.Records.{numberOf, answersOf}
+use Rattle.hop_rule.specs.Calls.{Outcome, badCount, answerAt}
 use Rattle.hop_c.specs.declared.HopAnswer.{HopAnswer}
 use Rattle.hop_c.specs.declared.HopRan.{HopRan}
 use Rattle.hop_c.specs.declared.HopEvent.{HopEvent}
@@ -24,19 +21,6 @@ answer o = record { code = o .number; value = answerAt 0 o }
 
 abbrev pub ran : Outcome → HopRan
 ran o = record { code = o .number; passes = answerAt 0 o; deliveries = answerAt 1 o }
-
--- The event that a kind and two numbers say. A number that the kind does not have is not looked at.
-unfoldable pub eventOf : ℕ → ℕ → ℕ → Event
-eventOf kind first second =
-    if eqb kind 15 then Make first
-    else if eqb kind 16 then Up first second
-    else if eqb kind 17 then Down first second
-    else if eqb kind 18 then Deliver first second
-    else Pass
-
--- Writing the event of a kind. An unknown kind is 10.
-unfoldable pub wroteEvent : ℕ → ℕ → ℕ → List ℕ → Outcome
-wroteEvent kind first second out = if known kind then outcome (writeEvent (eventOf kind first second)) [] out else refused 10 [] out
 
 -- What was read, as a C caller gets it: the number, the kind and its two numbers; what there is not is 0, so kind 0 is the plain end or a refusal.
 abbrev pub event : ℕ → List ℕ → HopEvent

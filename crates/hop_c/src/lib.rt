@@ -7,9 +7,8 @@ use hop_core::PassAnswer;
 use hop_core::RunAnswer;
 use hop_reader::read_from;
 use hop_records::Written;
-use hop_records::write_none;
-use hop_records::write_one;
-use hop_records::write_two;
+use hop_records::numbers_of;
+use hop_records::write_kind;
 use hop_rule::Event;
 use hop_rule::Reading;
 ghost use mathlib.Core.Path.{_≡_};
@@ -20,8 +19,8 @@ ghost use Rattle.hop_rule.specs.Records.{kindOf, bodyOf, readEvent, placeAfter}
 ghost use Rattle.hop_core.specs.Answers as core;
 ghost use Rattle.hop_core.specs.Answers.{told, passed};
 ghost use Rattle.hop_ask.specs.Answers.{asked};
-ghost use Rattle.hop_records.specs.Writing.{wrote};
-ghost use Rattle.hop_c.specs.Edge.{sizeOf, answer, ran, wroteEvent, event, reading};
+ghost use Rattle.hop_records.specs.Writing.{wrote, wroteEvent};
+ghost use Rattle.hop_c.specs.Edge.{sizeOf, answer, ran, event, reading};
 
 // A number, and one answer.
 #[repr(C)]
@@ -95,37 +94,12 @@ fn plain_written(w: Written) -> HopAnswer
 fn plain_event(e: Event) -> HopEvent
     ensures { λ r. ⌜ r ≡ event 0 (kindOf e ∷ bodyOf e) ⌝ }
 {
-    match e {
-        Event::Make(n) => HopEvent {
-            code: 0,
-            kind: 15,
-            first: n as u32,
-            second: 0,
-        },
-        Event::Up(a, b) => HopEvent {
-            code: 0,
-            kind: 16,
-            first: a as u32,
-            second: b as u32,
-        },
-        Event::Down(a, b) => HopEvent {
-            code: 0,
-            kind: 17,
-            first: a as u32,
-            second: b as u32,
-        },
-        Event::Deliver(w, u) => HopEvent {
-            code: 0,
-            kind: 18,
-            first: w as u32,
-            second: u as u32,
-        },
-        Event::Pass => HopEvent {
-            code: 0,
-            kind: 19,
-            first: 0,
-            second: 0,
-        },
+    let p = numbers_of(e);
+    HopEvent {
+        code: 0,
+        kind: p.kind,
+        first: p.first as u32,
+        second: p.second as u32,
     }
 }
 
@@ -255,20 +229,7 @@ pub extern "C" fn hop_status(state: &[u8], node: usize, out: &mut [u8]) -> HopAn
 pub extern "C" fn hop_write_event(kind: u32, first: u16, second: u16, out: &mut [u8]) -> HopAnswer
     ensures { λ r. ⌜ (r ≡ answer (wroteEvent kind first second (now (out .entry)))) × (now (out .exit) ≡ wroteEvent kind first second (now (out .entry)) .output) ⌝ }
 {
-    // The three kinds with two numbers go one way, and first: this is faster than a way for each kind.
-    if 16 <= kind {
-        if kind <= 18 {
-            return plain_written(write_two(kind as u16, first, second, out));
-        }
-        if kind == 19 {
-            return plain_written(write_none(19, out));
-        }
-        return HopAnswer { code: 10, value: 0 };
-    }
-    if kind == 15 {
-        return plain_written(write_one(15, first, out));
-    }
-    HopAnswer { code: 10, value: 0 }
+    plain_written(write_kind(kind, first, second, out))
 }
 
 #[no_mangle]

@@ -7,7 +7,8 @@ use Rattle.hop_rule.specs.declared.Event.{Event}
 use Rattle.hop_rule.specs.declared.Event.the-variants.{Make, Up, Down, Deliver, Pass}
 use Rattle.hop_rule.specs.State.{State}
 use Rattle.hop_rule.specs.Sound.{Sound}
-use Rattle.hop_rule.specs.Records.{words, recordOf, kindOf, bodyOf, eventRecord, statusRecord}
+use Rattle.hop_rule.specs.Records.{words, recordOf, bodyOf, eventRecord, statusRecord}
+use Rattle.hop_laws.proofs.Records.{kind-small}
 use Rattle.hop_laws.proofs.Ceiling.{total-fits, waiting-for-fits, waiting-from-fits, reached-fits}
 
 -- Every number of a list fits in two bytes.
@@ -28,14 +29,11 @@ words-bytes (x ∷ xs) h (suc zero) = omega arith
 words-bytes (x ∷ xs) h (suc (suc i)) = words-bytes xs (h .1) i
 
 pub event-bytes : (e : Event) → ((i : ℕ) → getD (bodyOf e) i 0 < 65536) → (i : ℕ) → getD (eventRecord e) i 0 < 256
-unfolding eventRecord recordOf kindOf bodyOf
-event-bytes e h = words-bytes _ (head e, (kind e, fit (bodyOf e) h))
+unfolding eventRecord recordOf bodyOf
+event-bytes e h = words-bytes _ (head, (omega (arith, kind-small e), fit (bodyOf e) h))
   where
-    head : (e : Event) → 2 + 2 * length (bodyOf e) < 65536
-    head e = elim e [ Make n ↦ omega arith | Up a b ↦ omega arith | Down a b ↦ omega arith | Deliver w u ↦ omega arith | Pass ↦ omega arith ]
-
-    kind : (e : Event) → kindOf e < 65536
-    kind e = elim e [ Make n ↦ omega arith | Up a b ↦ omega arith | Down a b ↦ omega arith | Deliver w u ↦ omega arith | Pass ↦ omega arith ]
+    head : 2 + 2 * length (bodyOf e) < 65536
+    head = elim e [ Make n ↦ omega arith | Up a b ↦ omega arith | Down a b ↦ omega arith | Deliver w u ↦ omega arith | Pass ↦ omega arith ]
 
 -- The fields of a status record are never reduced: soundness makes them fit.
 pub status-bytes : (s : State) → Sound s → s .n ≤ 40 → (u : ℕ) → u < s .n → (i : ℕ) → getD (statusRecord s u) i 0 < 256

@@ -16,7 +16,7 @@ use Rattle.hop_rule.specs.declared.Event.the-variants.{Make, Up, Down, Deliver,
 use Rattle.hop_rule.specs.declared.Reading.{Reading}
 use Rattle.hop_rule.specs.declared.Reading.the-variants.{Found, End, Refused}
 use Rattle.hop_rule.specs.State.{State}
-use Rattle.hop_rule.specs.Records.{words, wordAt, recordOf, kindOf, bodyOf, eventRecord, statusRecord, known, lengthOf, eventAt, readEvent}
+use Rattle.hop_rule.specs.Records.{words, wordAt, recordOf, kindOf, bodyOf, eventRecord, statusRecord, known, lengthOf, eventOf, eventAt, readEvent}
 use Rattle.hop_laws.proofs.Tests.{tells-eq, tells-or}
 
 pub length-status : (s : State) (u : ℕ) → length (statusRecord s u) ≡ 14
@@ -93,7 +93,7 @@ abbrev numbers : Event → List ℕ
 numbers e = (2 + 2 * length (bodyOf e)) ∷ kindOf e ∷ bodyOf e
 
 -- A known kind is the kind of an event; and the event of that kind at a place has it, with the words from there on as its body.
-known-kind : (kind : ℕ) → known kind ≡ true → (e : Event) × (kindOf e ≡ kind)
+pub known-kind : (kind : ℕ) → known kind ≡ true → (e : Event) × (kindOf e ≡ kind)
 unfolding known kindOf
 known-kind kind k =
     elim (tells-or (tells-eq kind 15) (tells-or (tells-eq kind 16) (tells-or (tells-eq kind 17) (tells-or (tells-eq kind 18) (tells-eq kind 19)))) .shows k) [
@@ -105,24 +105,28 @@ known-kind kind k =
     ]
 
 module _ (e : Event) where
+  pub kind-small : kindOf e < 100
+  unfolding kindOf
+  kind-small = elim e [ Make n ↦ omega arith | Up a b ↦ omega arith | Down a b ↦ omega arith | Deliver w u ↦ omega arith | Pass ↦ omega arith ]
+
   known-event : known (kindOf e) ≡ true
   unfolding known kindOf
   known-event = elim e [ Make n ↦ refl | Up a b ↦ refl | Down a b ↦ refl | Deliver w u ↦ refl | Pass ↦ refl ]
 
-  length-event : lengthOf (kindOf e) ≡ 2 + 2 * length (bodyOf e)
+  pub length-event : lengthOf (kindOf e) ≡ 2 + 2 * length (bodyOf e)
   unfolding lengthOf kindOf bodyOf
   length-event = elim e [ Make n ↦ refl | Up a b ↦ refl | Down a b ↦ refl | Deliver w u ↦ refl | Pass ↦ refl ]
 
   kind-eventAt : (s : List ℕ) (p : ℕ) → kindOf (eventAt (kindOf e) s p) ≡ kindOf e
-  unfolding eventAt kindOf
+  unfolding eventOf kindOf
   kind-eventAt s p = elim e [ Make n ↦ refl | Up a b ↦ refl | Down a b ↦ refl | Deliver w u ↦ refl | Pass ↦ refl ]
 
   body-eventAt : (s : List ℕ) (p : ℕ) → bodyOf (eventAt (kindOf e) s p) ≡ wordsAt s p (length (bodyOf e))
-  unfolding eventAt kindOf bodyOf
+  unfolding eventOf kindOf bodyOf
   body-eventAt s p = elim e [ Make n ↦ refl | Up a b ↦ refl | Down a b ↦ refl | Deliver w u ↦ refl | Pass ↦ refl ]
 
 eventAt-body : (e : Event) (s : List ℕ) (p : ℕ) → wordsAt s p (length (bodyOf e)) ≡ bodyOf e → eventAt (kindOf e) s p ≡ e
-unfolding eventAt kindOf bodyOf
+unfolding eventOf kindOf bodyOf
 eventAt-body (Make n) s p h = cc
 eventAt-body (Up a b) s p h = cc
 eventAt-body (Down a b) s p h = cc

@@ -3,7 +3,6 @@
 use hop_records::read_event;
 use hop_rule::Reading;
 ghost use mathlib.Core.Path.{_≡_};
-ghost use Prim.Native.Nat.{_+_};
 ghost use Rattle.hop_rule.specs.Records.{readEvent, placeAfter};
 ghost use Rattle.hop_reader.specs.Stepping.{stepAt};
 

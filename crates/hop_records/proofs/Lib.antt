@@ -1,3 +1,4 @@
 mod Heads
+mod Known
 pub mod Stores
 pub mod Answers

@@ -1,4 +1,4 @@
-// Event and status records as bytes, written and read.
+// Event and status records as bytes, written and read. The one place in the code that knows an event's kind, length and numbers.
 use hop_rule::Event;
 use hop_rule::Reading;
 ghost use mathlib.Core.Path.{_≡_};
@@ -9,12 +9,55 @@ ghost use lib.ListN.{length};
 ghost use lib.Seq.{sets};
 ghost use Rattle.hop_rule.specs.Records.{words, wordAt, recordOf, known, lengthOf, eventAt, readEvent, written};
 ghost use Rattle.hop_rule.specs.Calls.{writeEvent, outcome};
-ghost use Rattle.hop_records.specs.Writing.{wrote, tried};
+ghost use Rattle.hop_records.specs.Writing.{wrote, tried, numbersOf, wroteEvent, knownLength};
 
 // What writing a record gives: the bytes written, or the number of the refusal.
 pub enum Written {
     Bytes(u32),
     Refused(u32),
+}
+
+// An event in plain numbers: its kind and its two numbers, 0 where the kind has none.
+pub struct Numbers {
+    pub kind: u32,
+    pub first: u16,
+    pub second: u16,
+}
+
+fn of_kind(kind: u32, first: u16, second: u16) -> Numbers
+    ensures { λ r. ⌜ r ≡ record { kind = kind; first = first; second = second } ⌝ }
+{
+    Numbers {
+        kind,
+        first,
+        second,
+    }
+}
+
+pub fn numbers_of(e: Event) -> Numbers
+    ensures { λ r. ⌜ r ≡ numbersOf e ⌝ }
+{
+    match e {
+        Event::Make(n) => of_kind(15, n, 0),
+        Event::Up(a, b) => of_kind(16, a, b),
+        Event::Down(a, b) => of_kind(17, a, b),
+        Event::Deliver(w, u) => of_kind(18, w, u),
+        Event::Pass => of_kind(19, 0, 0),
+    }
+}
+
+// The length of a kind's record; 0 for a kind that is not known.
+fn length_of(kind: u32) -> u16
+    ensures { λ r. ⌜ r ≡ knownLength kind ⌝ }
+{
+    match kind {
+        15 => 4,
+        16 => 6,
+        17 => 6,
+        18 => 6,
+        19 => 2,
+        _ => 0,
+    }
 }
 
 // One little-endian 16-bit number at a place.
@@ -36,7 +79,7 @@ fn write_pair(out: &mut [u8], at: usize, x: u16, y: u16)
 }
 
 // A record of a kind whose body has no number, one, or two.
-pub fn write_none(kind: u16, out: &mut [u8]) -> Written
+fn write_none(kind: u16, out: &mut [u8]) -> Written
     ensures { λ r. ⌜ wrote r (now (out .exit)) ≡ tried (recordOf kind []) (now (out .entry)) ⌝ }
 {
     if out.len() < 4 {
@@ -46,7 +89,7 @@ pub fn write_none(kind: u16, out: &mut [u8]) -> Written
     Written::Bytes(4)
 }
 
-pub fn write_one(kind: u16, a: u16, out: &mut [u8]) -> Written
+fn write_one(kind: u16, a: u16, out: &mut [u8]) -> Written
     ensures { λ r. ⌜ wrote r (now (out .exit)) ≡ tried (recordOf kind (a ∷ [])) (now (out .entry)) ⌝ }
 {
     if out.len() < 6 {
@@ -57,7 +100,7 @@ pub fn write_one(kind: u16, a: u16, out: &mut [u8]) -> Written
     Written::Bytes(6)
 }
 
-pub fn write_two(kind: u16, a: u16, b: u16, out: &mut [u8]) -> Written
+fn write_two(kind: u16, a: u16, b: u16, out: &mut [u8]) -> Written
     ensures { λ r. ⌜ wrote r (now (out .exit)) ≡ tried (recordOf kind (a ∷ b ∷ [])) (now (out .entry)) ⌝ }
 {
     if out.len() < 8 {
@@ -68,17 +111,28 @@ pub fn write_two(kind: u16, a: u16, b: u16, out: &mut [u8]) -> Written
     Written::Bytes(8)
 }
 
-// Writing an event needs its length + 2 bytes; the bytes after them stay.
+// Writing the event that a kind and two numbers say, for callers that have it so. By how many numbers the kind has: this is faster than a way for each kind.
+pub fn write_kind(kind: u32, first: u16, second: u16, out: &mut [u8]) -> Written
+    ensures { λ r. ⌜ wrote r (now (out .exit)) ≡ wroteEvent kind first second (now (out .entry)) ⌝ }
+{
+    let size = length_of(kind);
+    if size == 0 {
+        return Written::Refused(10);
+    }
+    let kind = kind as u16;
+    match size {
+        6 => write_two(kind, first, second, out),
+        4 => write_one(kind, first, out),
+        _ => write_none(kind, out),
+    }
+}
+
+// Writing an event, for callers in Rattle. It needs its length + 2 bytes; the bytes after them stay.
 pub fn write_event(e: Event, out: &mut [u8]) -> Written
     ensures { λ r. ⌜ wrote r (now (out .exit)) ≡ outcome (writeEvent e) [] (now (out .entry)) ⌝ }
 {
-    match e {
-        Event::Make(n) => write_one(15, n, out),
-        Event::Up(a, b) => write_two(16, a, b, out),
-        Event::Down(a, b) => write_two(17, a, b, out),
-        Event::Deliver(w, u) => write_two(18, w, u, out),
-        Event::Pass => write_none(19, out),
-    }
+    let p = numbers_of(e);
+    write_kind(p.kind, p.first, p.second, out)
 }
 
 // The status record, where there is room for its 14 bytes.
@@ -107,18 +161,8 @@ fn word_at(s: &[u8], at: usize) -> u16
     s[at] as u16 + 256 * (s[at + 1] as u16)
 }
 
-fn length_of(kind: u16) -> u16
-    ensures { λ r. ⌜ r ≡ lengthOf kind ⌝ }
-{
-    match kind {
-        15 => 4,
-        19 => 2,
-        _ => 6,
-    }
-}
-
 // The event of a kind, from its body at a place.
-fn event_at(kind: u16, s: &[u8], at: usize) -> Event
+fn event_at(kind: u32, s: &[u8], at: usize) -> Event
     requires { ⌜ at + lengthOf kind ≤ 2 + length (now s) ⌝ }
     ensures { λ r. ⌜ r ≡ eventAt kind (now (s .entry)) at ⌝ }
 {
@@ -132,7 +176,7 @@ fn event_at(kind: u16, s: &[u8], at: usize) -> Event
 }
 
 // Reading a record of a known kind, which tells its length and so the next place.
-fn read_known(kind: u16, s: &[u8], place: usize) -> Reading
+fn read_known(kind: u32, s: &[u8], place: usize) -> Reading
     requires { ⌜ (place + 4 ≤ length (now s)) × (wordAt (now s) (place + 2) ≡ kind) × (known kind ≡ true) ⌝ }
     ensures { λ r. ⌜ r ≡ readEvent (now (s .entry)) place ⌝ }
 {
@@ -148,7 +192,7 @@ fn read_known(kind: u16, s: &[u8], place: usize) -> Reading
     }
 }
 
-// Reading where at least a length and a kind are left.
+// Reading where at least a length and a kind are left. A way for each kind, in which its length is fixed: a length that is looked up would have the next record wait for it.
 fn read_record(s: &[u8], place: usize) -> Reading
     requires { ⌜ place + 4 ≤ length (now s) ⌝ }
     ensures { λ r. ⌜ r ≡ readEvent (now (s .entry)) place ⌝ }

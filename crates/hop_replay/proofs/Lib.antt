@@ -3,4 +3,4 @@ pub mod Checked
 pub mod Left
 pub mod Routes
 pub mod Short
-pub mod Fine
+pub mod Accepted

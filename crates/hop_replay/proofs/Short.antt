@@ -1,5 +1,5 @@
 -- The text has at most 92,072 bytes: a header of 23, 4,097 event lines of 17, and 1,600 `d` lines of 14. Assumes nothing.
-use mathlib.Core.Path.{_≡_, refl, ap, subst, _∙_}
+use mathlib.Core.Path.{_≡_, refl, subst, _∙_}
 use mathlib.Core.Logic.{_⊎_, inl, inr}
 use mathlib.Core.Bool.{Bool, true, false, cond, not}
 use mathlib.Core.List.{List, [], _∷_}
@@ -17,17 +17,18 @@ use Rattle.hop_rule.specs.Words.{joined}
 use Rattle.hop_rule.specs.State.{State}
 use Rattle.hop_rule.specs.Stored.{readAs, read}
 use Rattle.hop_rule.specs.Sound.{Sound}
-use Rattle.hop_rule.specs.Records.{wordAt, kindOf, known, lengthOf, readEvent}
-use Rattle.hop_rule.specs.Calls.{Refusal, Outcome, make, check, totalQueued, judge, refusals, answerAt, done, outcome}
+use Rattle.hop_rule.specs.Records.{wordAt, known, lengthOf, readEvent}
+use Rattle.hop_rule.specs.Calls.{Refusal, make, check, totalQueued, judge, refusals, answerAt, outcome}
 use Rattle.hop_laws.proofs.Rule.{distanceOf-most, Current, sound-current, current-own, current-none, current-gives}
 use Rattle.hop_laws.proofs.Ceiling.{total-fits}
-use Rattle.hop_laws.proofs.Calls.{outcome-done, outcome-refused, state-fine, outcome-number}
-use Rattle.hop_laws.proofs.Records.{found-place}
+use Rattle.hop_laws.proofs.Calls.{outcome-number, answer-done, state-fine}
+use Rattle.hop_laws.proofs.Accepted.{accepted-fine, fine-total}
+use Rattle.hop_laws.proofs.Records.{kind-small, found-place}
 use Rattle.hop_text.specs.Text.{header}
 use Rattle.hop_text.specs.Writing.{Ends}
 use Rattle.hop_text.proofs.Short.{event-short, route-short}
 use Rattle.hop_replay.specs.Replay.{callOf, queued, appliedLine, events, routeAt, routesFrom, routeLines, routes, played, replayed}
-use Rattle.hop_replay.proofs.Checked.{checked-fine, routes-some, routes-none}
+use Rattle.hop_replay.proofs.Checked.{routes-some, routes-none}
 use Rattle.hop_replay.proofs.Left.{events-found, events-end, events-refused}
 
 -- ---- the numbers of an event line
@@ -58,10 +59,6 @@ number-small e s =
     ]) in
     omega (arith, outcome-number (callOf e) s [])
 
-kind-small : (e : Event) → kindOf e < 100
-unfolding kindOf
-kind-small e = elim e [ Make n ↦ omega arith | Up a b ↦ omega arith | Down a b ↦ omega arith | Deliver w u ↦ omega arith | Pass ↦ omega arith ]
-
 -- A reading's refusal is 9, 10 or 11.
 data Small : Reading → Type 0 where
   found : {e : Event} {q : ℕ} → Small (Found e q)
@@ -85,15 +82,14 @@ reading-small s p =
     (small-either (not (eqb (wordAt s p) (lengthOf (wordAt s (p + 2))))) (refused 11 (omega arith))
     (small-either (ltb (length s) (p + 2 + wordAt s p)) (refused 9 (omega arith)) found)))))
 
+-- An answer past 0 is that of a total which was not refused.
 queued-small : (s : List ℕ) → queued s < 100000
-unfolding queued refusals done readAs
-queued-small s = go (ℕ-discrete (judge (refusals totalQueued s [])) 0)
+unfolding queued refusals readAs
+queued-small s = go (decLt 0 (answerAt 0 (outcome totalQueued s [])))
   where
-    go : Dec (judge (refusals totalQueued s []) ≡ 0) → answerAt 0 (outcome totalQueued s []) < 100000
-    go (yes z) =
-        let fine = state-fine s [] z .0 in
-        omega (arith, ap (answerAt 0) (outcome-done totalQueued s [] z), total-fits (read s) (fine .sound .state) (fine .most))
-    go (no f) = omega (arith, ap (answerAt 0) (outcome-refused totalQueued s [] f))
+    go : Dec (0 < answerAt 0 (outcome totalQueued s [])) → answerAt 0 (outcome totalQueued s []) < 100000
+    go (yes l) = let fine = state-fine s [] (answer-done totalQueued s [] 0 l) .0 in omega (arith, fine-total s fine, total-fits (read s) (fine .sound .state) (fine .most))
+    go (no f) = omega arith
 
 -- ---- the event lines
 
@@ -154,7 +150,7 @@ unfolding readAs
 routes-short s = go (ℕ-discrete (outcome check s [] .number) 0)
   where
     go : Dec (outcome check s [] .number ≡ 0) → length (routes s) ≤ 22400
-    go (yes z) = let fine = checked-fine s z in rw (routes-some s z) (lines-short (read s) (fine .sound .state) (fine .most))
+    go (yes z) = let fine = accepted-fine s z in rw (routes-some s z) (lines-short (read s) (fine .sound .state) (fine .most))
     go (no f) = rw (routes-none s f) (omega arith)
 
 -- ---- the text

@@ -7,7 +7,7 @@ use Rattle.hop_rule.specs.Rule as rule
 use Rattle.hop_rule.specs.Rule.{least, distanceOf, downstreamOf, send, recompute, hear, linkUp, total, fresh}
 use Rattle.hop_rule.specs.Stored.{size, grid, cube, destinationAt, valueAt, block, stored, start, nodes, flat, deep, readAs}
 use Rattle.hop_rule.specs.Sound.{waits, differ, each, pairs, triples, isSound, isSoundAs}
-use Rattle.hop_rule.specs.Records.{wordAt, kindOf, known, lengthOf, eventAt, readEvent}
+use Rattle.hop_rule.specs.Records.{wordAt, kindOf, known, lengthOf, eventOf, readEvent}
 use Rattle.hop_rule.specs.Calls.{judge, refusals, done, outcome}
 use Rattle.hop_text.specs.Text.{digits, number, header, eventLine, downstreamEnd, routeLine}
 use Rattle.hop_replay.specs.Replay.{callOf, queued, appliedLine, events, routeAt, routesFrom, routeLines, routes, played, replayed, program}
@@ -38,12 +38,12 @@ printed =
     ∷ []
 
 pub worked-text : program worked ≡ header ++ printed
-unfolding worked printed program replayed played events appliedLine queued callOf routes routeLines routesFrom routeAt routeLine downstreamEnd eventLine header number digits outcome done refusals judge isSoundAs isSound triples pairs each differ waits readEvent eventAt lengthOf known kindOf wordAt readAs deep flat nodes start stored block valueAt destinationAt cube grid size fresh total rule.pass linkUp rule.deliver hear recompute send downstreamOf distanceOf least first every joined listed sum loop
+unfolding worked printed program replayed played events appliedLine queued callOf routes routeLines routesFrom routeAt routeLine downstreamEnd eventLine header number digits outcome done refusals judge isSoundAs isSound triples pairs each differ waits readEvent eventOf lengthOf known kindOf wordAt readAs deep flat nodes start stored block valueAt destinationAt cube grid size fresh total rule.pass linkUp rule.deliver hear recompute send downstreamOf distanceOf least first every joined listed sum loop
 worked-text = refl
 
 -- Empty input prints the header and `d 0 0 0 0`.
 pub empty-text : program [] ≡ header ++ (100 ∷ 32 ∷ 48 ∷ 32 ∷ 48 ∷ 32 ∷ 48 ∷ 32 ∷ 48 ∷ 10 ∷ [])
-unfolding program replayed played events appliedLine queued callOf routes routeLines routesFrom routeAt routeLine downstreamEnd eventLine header number digits outcome done refusals judge isSoundAs isSound triples pairs each differ waits readEvent eventAt lengthOf known kindOf wordAt readAs deep flat nodes start stored block valueAt destinationAt cube grid size fresh total rule.pass linkUp rule.deliver hear recompute send downstreamOf distanceOf least first every joined listed sum loop
+unfolding program replayed played events appliedLine queued callOf routes routeLines routesFrom routeAt routeLine downstreamEnd eventLine header number digits outcome done refusals judge isSoundAs isSound triples pairs each differ waits readEvent eventOf lengthOf known kindOf wordAt readAs deep flat nodes start stored block valueAt destinationAt cube grid size fresh total rule.pass linkUp rule.deliver hear recompute send downstreamOf distanceOf least first every joined listed sum loop
 empty-text = refl
 
 -- 04 00 0f 00 00 00 02 00 14 00 02 00 13 00: make 0, which is refused, a record of kind 20, and a pass that is not read.
@@ -58,5 +58,5 @@ pub stopped-text : program stopped
     -- d 0 0 0 0
     ∷ 100 ∷ 32 ∷ 48 ∷ 32 ∷ 48 ∷ 32 ∷ 48 ∷ 32 ∷ 48 ∷ 10
     ∷ [])
-unfolding stopped program replayed played events appliedLine queued callOf routes routeLines routesFrom routeAt routeLine downstreamEnd eventLine header number digits outcome done refusals judge isSoundAs isSound triples pairs each differ waits readEvent eventAt lengthOf known kindOf wordAt readAs deep flat nodes start stored block valueAt destinationAt cube grid size fresh total rule.pass linkUp rule.deliver hear recompute send downstreamOf distanceOf least first every joined listed sum loop
+unfolding stopped program replayed played events appliedLine queued callOf routes routeLines routesFrom routeAt routeLine downstreamEnd eventLine header number digits outcome done refusals judge isSoundAs isSound triples pairs each differ waits readEvent eventOf lengthOf known kindOf wordAt readAs deep flat nodes start stored block valueAt destinationAt cube grid size fresh total rule.pass linkUp rule.deliver hear recompute send downstreamOf distanceOf least first every joined listed sum loop
 stopped-text = refl

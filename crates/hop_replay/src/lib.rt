@@ -7,6 +7,7 @@ use hop_core::PassAnswer;
 use hop_judge::Judged;
 use hop_judge::judge_state;
 use hop_reader::read_from;
+use hop_records::numbers_of;
 use hop_rule::Event;
 use hop_rule::Reading;
 use hop_rule::Table;
@@ -18,25 +19,12 @@ ghost use mathlib.Core.List.{[]};
 ghost use Prim.Native.Nat.{_≤_, _<_};
 ghost use lib.ListN.{take};
 ghost use Rattle.hop_rule.specs.Stored.{readAs};
-ghost use Rattle.hop_rule.specs.Records.{kindOf};
 ghost use Rattle.hop_rule.specs.Calls.{outcome};
 ghost use Rattle.hop_cells.specs.Cells.{Room};
 ghost use Rattle.hop_core.specs.Answers.{passNumber};
 ghost use Rattle.hop_text.specs.Writing.{Ends, Wrote};
 ghost use Rattle.hop_replay.specs.Replay as replay;
 ghost use Rattle.hop_replay.specs.Replay.{callOf, appliedLine, eventsOf, routesFrom, routeLines, routes, replayed};
-
-fn kind_of(e: Event) -> usize
-    ensures { λ r. ⌜ r ≡ kindOf e ⌝ }
-{
-    match e {
-        Event::Make(_) => 15,
-        Event::Up(_, _) => 16,
-        Event::Down(_, _) => 17,
-        Event::Deliver(_, _) => 18,
-        Event::Pass => 19,
-    }
-}
 
 // The refusal number of a pass; what it delivered is not printed.
 fn number_of(answer: PassAnswer) -> u32
@@ -76,7 +64,15 @@ fn put_applied(state: &mut [u8], out: &mut [u8], at: usize, ordinal: usize, e: E
     ensures { λ r. ⌜ Wrote (appliedLine ordinal e (now (state .entry))) (now (out .entry)) at (now (out .exit)) r × (now (state .exit) ≡ outcome (callOf e) (now (state .entry)) [] .bytes) ⌝ }
 {
     let code = apply(state, e);
-    put_event(out, at, ordinal, kind_of(e), code as usize, queued(state))
+    let p = numbers_of(e);
+    put_event(
+        out,
+        at,
+        ordinal,
+        p.kind as usize,
+        code as usize,
+        queued(state),
+    )
 }
 
 // The records one after another, each through the reader: a refused event is printed and the next is applied, a refused record is printed and ends the reading.

@@ -19,3 +19,4 @@ pub mod Top
 pub mod Attained
 pub mod OnBytes
 pub mod Delivering
+pub mod Accepted

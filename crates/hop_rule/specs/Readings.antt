@@ -5,7 +5,7 @@ use Prim.Native.Nat.{ℕ}
 use Rattle.hop_rule.specs.declared.Event.the-variants.{Make, Up, Down, Deliver, Pass}
 use Rattle.hop_rule.specs.declared.Reading.{Reading}
 use Rattle.hop_rule.specs.declared.Reading.the-variants.{Found, End, Refused}
-use Rattle.hop_rule.specs.Records.{words, wordAt, recordOf, kindOf, bodyOf, eventRecord, known, lengthOf, eventAt, readEvent}
+use Rattle.hop_rule.specs.Records.{words, wordAt, recordOf, kindOf, bodyOf, eventRecord, known, lengthOf, eventOf, readEvent}
 
 -- Bytes, a place, and what is read there.
 pub data Sample : Type 0 where
@@ -47,5 +47,5 @@ samples =
 
 -- The one statement: each sample is read as it says.
 pub samples-hold : map observed samples ≡ map expected samples
-unfolding observed expected samples script eventRecord recordOf words kindOf bodyOf readEvent eventAt lengthOf known wordAt
+unfolding observed expected samples script eventRecord recordOf words kindOf bodyOf readEvent eventOf lengthOf known wordAt
 samples-hold = refl

@@ -57,14 +57,18 @@ known kind = eqb kind 15 || (eqb kind 16 || (eqb kind 17 || (eqb kind 18 || eqb 
 unfoldable pub lengthOf : ℕ → ℕ
 lengthOf kind = if eqb kind 15 then 4 else if eqb kind 19 then 2 else 6
 
--- The event of a known kind whose body begins at p.
-unfoldable pub eventAt : ℕ → List ℕ → ℕ → Event
-eventAt kind s p =
-    if eqb kind 15 then Make (wordAt s p)
-    else if eqb kind 16 then Up (wordAt s p) (wordAt s (p + 2))
-    else if eqb kind 17 then Down (wordAt s p) (wordAt s (p + 2))
-    else if eqb kind 18 then Deliver (wordAt s p) (wordAt s (p + 2))
+-- The event of a known kind with its numbers. One that the kind does not have is not looked at.
+unfoldable pub eventOf : ℕ → ℕ → ℕ → Event
+eventOf kind first second =
+    if eqb kind 15 then Make first
+    else if eqb kind 16 then Up first second
+    else if eqb kind 17 then Down first second
+    else if eqb kind 18 then Deliver first second
     else Pass
+
+-- The event of a known kind whose body begins at p.
+abbrev pub eventAt : ℕ → List ℕ → ℕ → Event
+eventAt kind s p = eventOf kind (wordAt s p) (wordAt s (p + 2))
 
 -- Reading at place p. Order: a place past the end 9; no bytes left is the plain end; fewer than 4 bytes 9, then 10, 11, body cut 9.
 unfoldable pub readEvent : List ℕ → ℕ → Reading

@@ -1,7 +1,7 @@
 -- `link_line` is safe and ends; what it prints is compared by the gate. Assumes nothing.
 use borrow.Author.Needs.{needs}
 use mathlib.Core.Path.{_≡_}
-use Prim.Native.Nat.{ℕ, _≤_, _-_}
+use Prim.Native.Nat.{_-_}
 use native.Mathlib.Omega.{arith}
 use lib.ListN.{length}
 use Rattle.hop_numbers.proofs.link_line.Statement.{statement}

@@ -1,9 +1,7 @@
 -- `print_status` is safe and ends; what it prints is compared by the gate. Assumes nothing.
 use borrow.Author.Needs.{needs}
-use mathlib.Core.Path.{_≡_}
-use Prim.Native.Nat.{ℕ, _≤_, _-_}
+use Prim.Native.Nat.{_≤_, _-_}
 use native.Mathlib.Omega.{arith}
-use lib.ListN.{length}
 use Rattle.hop_numbers.proofs.print_status.Statement.{statement}
 use Rattle.hop_numbers.proofs.print_status.Tie as tie
 

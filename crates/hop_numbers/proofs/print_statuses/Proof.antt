@@ -1,8 +1,6 @@
 -- `print_statuses` is safe and ends; what it prints is compared by the gate. Assumes nothing.
-use mathlib.Core.Path.{_≡_}
-use Prim.Native.Nat.{ℕ, _≤_, _-_}
+use Prim.Native.Nat.{_≤_, _-_}
 use native.Mathlib.Omega.{arith}
-use lib.ListN.{length}
 use borrow.Author.Needs.{needs}
 use Rattle.hop_numbers.proofs.print_statuses.Statement.{statement}
 use Rattle.hop_numbers.proofs.print_statuses.Tie as tie

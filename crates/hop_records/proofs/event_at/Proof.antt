@@ -3,7 +3,7 @@ use mathlib.Core.Path.{ap}
 use native.Mathlib.Omega.{arith}
 use borrow.Author.Tests.{ne-eqb}
 use borrow.Author.Needs.{needs}
-use Rattle.hop_rule.specs.Records.{lengthOf, eventAt}
+use Rattle.hop_rule.specs.Records.{lengthOf, eventOf}
 use Rattle.hop_records.proofs.event_at.Statement.{statement}
 use Rattle.hop_records.proofs.event_at.Tie as tie
 
@@ -45,23 +45,23 @@ unfolding lengthOf
 word-at-requires-7 c κs = omega (arith, ap lengthOf (c .before .match .keys4))
 
 returns : tie.Need-returns
-unfolding eventAt
+unfolding eventOf
 returns c = rw (c .before .match .keys1, c .word-at .ensures)
 
 returns-2 : tie.Need-returns-2
-unfolding eventAt
+unfolding eventOf
 returns-2 c = rw (c .before .before .match .keys2, c .before .word-at2 .ensures, c .word-at3 .ensures)
 
 returns-3 : tie.Need-returns-3
-unfolding eventAt
+unfolding eventOf
 returns-3 c = rw (c .before .before .match .keys3, c .before .word-at4 .ensures, c .word-at5 .ensures)
 
 returns-4 : tie.Need-returns-4
-unfolding eventAt
+unfolding eventOf
 returns-4 c = rw (c .before .before .match .keys4, c .before .word-at6 .ensures, c .word-at7 .ensures)
 
 returns-5 : tie.Need-returns-5
-unfolding eventAt
+unfolding eventOf
 returns-5 c = simp (ne-eqb _ _ (c .match .rest .0 .0 .0 .1), ne-eqb _ _ (c .match .rest .0 .0 .1), ne-eqb _ _ (c .match .rest .0 .1), ne-eqb _ _ (c .match .rest .1))
 
 pub event-at-spec : {M : Type 1} → statement M

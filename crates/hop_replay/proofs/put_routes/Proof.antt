@@ -1,8 +1,7 @@
 -- `put_routes` meets its contract: where a state is judged to be there, its cells can be read. Assumes nothing.
-use mathlib.Core.Path.{sym}
 use mathlib.Core.List.{[]}
 use borrow.Author.Needs.{needs}
-use Rattle.hop_judge.proofs.Known.{claim-known, room-known}
+use Rattle.hop_judge.proofs.Known.{room-known}
 use Rattle.hop_text.proofs.Writing.{wrote-nothing}
 use Rattle.hop_replay.proofs.Checked.{routes-go, routes-refused}
 use Rattle.hop_replay.proofs.put_routes.Statement.{statement}
@@ -24,7 +23,7 @@ put-all-routes-requires c κs =
     let s = at-args .args .state .now in
     let judged = at-n .before .before .judge-state .ensures in
     let go = at-n .n .given .1 in
-    (room-known s [] judged go, sym (claim-known s [] judged go), rw (routes-go s judged go) at (at-args .pre))
+    (room-known s [] judged go, rw (routes-go s judged go) at (at-args .pre))
 
 returns : tie.Need-returns
 returns c = rw (routes-refused (c .before .before .before .before .before .args .state .now) (c .before .before .judge-state .ensures) (c .enum-told .given .1)) (wrote-nothing _ _)
