@@ -1,7 +1,9 @@
--- What the questions answer, as document 01's numbers: for each case of the answer its number and its other answers, and the outcome that they make with the state's bytes, which stay, and the output's. A contract equates that with the call's outcome.
+-- What the questions answer, as document 01's numbers: for each case of the answer its number and its other answers, and the outcome that they make with the state's bytes, which stay, and the output's.
+-- Asked and Wrote are the contracts: of a buffer s the answer, and with it the bytes left in the output, make the call's outcome.
+use mathlib.Core.Path.{_≡_}
 use mathlib.Core.List.{List, [], _∷_}
 use Prim.Native.Nat.{ℕ}
-use Rattle.hop_rule.specs.Calls.{Outcome}
+use Rattle.hop_rule.specs.Calls.{Call, Outcome, outcome}
 use Rattle.hop_ask.specs.declared.Answer.{Answer}
 use Rattle.hop_ask.specs.declared.Answer.the-variants.{Value, Refused}
 
@@ -15,3 +17,9 @@ answers (Refused c) = []
 
 abbrev pub asked : Answer → List ℕ → List ℕ → Outcome
 asked a s out = record { number = number a; answers = answers a; bytes = s; output = out }
+
+abbrev pub Asked : Call → List ℕ → Answer → Type 0
+Asked c s a = asked a s [] ≡ outcome c s []
+
+abbrev pub Wrote : Call → List ℕ → List ℕ → Answer → List ℕ → Type 0
+Wrote c s out a left = asked a s left ≡ outcome c s out

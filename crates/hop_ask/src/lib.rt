@@ -8,10 +8,10 @@ use hop_judge::judge_state;
 use hop_judge::judge_status;
 use hop_rule::Table;
 ghost use mathlib.Core.Path.{_≡_};
-ghost use mathlib.Core.List.{[]};
+ghost use Prim.Native.Nat.{_<_};
 ghost use Rattle.hop_rule.specs.Calls as call;
-ghost use Rattle.hop_rule.specs.Calls.{outcome};
-ghost use Rattle.hop_ask.specs.Answers.{asked};
+ghost use Rattle.hop_ask.specs.declared.Answer.the-variants.{Value};
+ghost use Rattle.hop_ask.specs.Answers.{Asked, Wrote};
 
 // A value, or the number of a refusal.
 pub enum Answer {
@@ -19,49 +19,57 @@ pub enum Answer {
     Refused(u32),
 }
 
+// What was read or counted is a value, also where it is 0.
+fn value(x: usize) -> Answer
+    requires { ⌜ x < 4294967296 ⌝ }
+    ensures { λ r. ⌜ r ≡ Value x ⌝ }
+{
+    Answer::Value(x as u32)
+}
+
 // The distance from u to v; n where there is no route. Refuses 2, 1, 2, 3, 4.
 pub fn distance(s: &[u8], u: usize, v: usize) -> Answer
-    ensures { λ r. ⌜ asked r (now (s .entry)) [] ≡ outcome (call.distance u v) (now (s .entry)) [] ⌝ }
+    ensures { λ r. ⌜ Asked (call.distance u v) (now (s .entry)) r ⌝ }
 {
     match judge_pair(s, u, v) {
         Judged::Refused(c) => Answer::Refused(c),
-        Judged::Go(n) => Answer::Value(get2(s, n, Table::Distances, u, v) as u32),
+        Judged::Go(n) => value(get2(s, n, Table::Distances, u, v)),
     }
 }
 
 // The downstream neighbour of u for v; u for u itself, 255 for none. Refuses 2, 1, 2, 3, 4.
 pub fn downstream(s: &[u8], u: usize, v: usize) -> Answer
-    ensures { λ r. ⌜ asked r (now (s .entry)) [] ≡ outcome (call.downstream u v) (now (s .entry)) [] ⌝ }
+    ensures { λ r. ⌜ Asked (call.downstream u v) (now (s .entry)) r ⌝ }
 {
     match judge_pair(s, u, v) {
         Judged::Refused(c) => Answer::Refused(c),
-        Judged::Go(n) => Answer::Value(get2(s, n, Table::Downstreams, u, v) as u32),
+        Judged::Go(n) => value(get2(s, n, Table::Downstreams, u, v)),
     }
 }
 
 // The entries that wait from w to u; 0 where the link is down. Refuses 2, 1, 2, 3, 4, 5.
 pub fn queue_length(s: &[u8], w: usize, u: usize) -> Answer
-    ensures { λ r. ⌜ asked r (now (s .entry)) [] ≡ outcome (call.queueLength w u) (now (s .entry)) [] ⌝ }
+    ensures { λ r. ⌜ Asked (call.queueLength w u) (now (s .entry)) r ⌝ }
 {
     match judge_ends(s, w, u) {
         Judged::Refused(c) => Answer::Refused(c),
-        Judged::Go(n) => Answer::Value(get2(s, n, Table::Lengths, w, u) as u32),
+        Judged::Go(n) => value(get2(s, n, Table::Lengths, w, u)),
     }
 }
 
 // The entries that wait in the whole state. Refuses 2, 1, 2, 3.
 pub fn total_queued(s: &[u8]) -> Answer
-    ensures { λ r. ⌜ asked r (now (s .entry)) [] ≡ outcome call.totalQueued (now (s .entry)) [] ⌝ }
+    ensures { λ r. ⌜ Asked call.totalQueued (now (s .entry)) r ⌝ }
 {
     match judge_state(s) {
         Judged::Refused(c) => Answer::Refused(c),
-        Judged::Go(n) => Answer::Value(hop_runs::queued(s, n) as u32),
+        Judged::Go(n) => value(hop_runs::queued(s, n)),
     }
 }
 
 // The status record of node u, written to out: 14 bytes, which is the value. Refuses 2, 1, 2, 3, 4, 2.
 pub fn status(s: &[u8], u: usize, out: &mut [u8]) -> Answer
-    ensures { λ r. ⌜ asked r (now (s .entry)) (now (out .exit)) ≡ outcome (call.status u) (now (s .entry)) (now (out .entry)) ⌝ }
+    ensures { λ r. ⌜ Wrote (call.status u) (now (s .entry)) (now (out .entry)) r (now (out .exit)) ⌝ }
 {
     match judge_status(s, u, out) {
         Judged::Refused(c) => Answer::Refused(c),

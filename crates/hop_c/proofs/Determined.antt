@@ -37,10 +37,13 @@ determined = record {
   total-queued = λ s. asked-fixed-answer _ _ _;
   status = λ s out u. asked-fixed _ _;
   write-event = λ out e. wrote-fixed _;
-  numbers-of = λ e. is-fixed _;
   write-kind = λ out kind first second. wrote-fixed _;
+  numbers-of = λ e. is-fixed _;
   read-event = λ s p. is-fixed _;
-  read-next = λ s p x y q r h k. let same = h .0 ∙ sym (k .0) in (same, h .1 ∙ ap₂ placeAfter same refl ∙ sym (k .1));
+  reader-at = λ src p. both-fixed _ _;
+  read-next = λ s src p x y l m h k.
+      let same = h .0 ∙ sym (k .0) in
+      (same, ap₂ (λ kept place. (kept, place)) (h .1 ∙ sym (k .1)) (h .2 ∙ ap (λ r. placeAfter r p) same ∙ sym (k .2)));
   read-from = λ s p. is-fixed _;
 }
 
@@ -69,10 +72,10 @@ unfolding done
 none-refused-with-0 = record {
   pass = λ s t. has-answer call.pass s [] (omega arith) refl refl;
   run = λ s t k. has-answer (call.run k) s [] (omega arith) refl refl;
-  distance = λ s t out u v. has-answer (call.distance u v) s [] (omega arith) refl refl;
-  downstream = λ s t out u v. has-answer (call.downstream u v) s [] (omega arith) refl refl;
-  queue-length = λ s t out w u. has-answer (call.queueLength w u) s [] (omega arith) refl refl;
-  total-queued = λ s t out. has-answer call.totalQueued s [] (omega arith) refl refl;
-  status = λ s t out left u. has-answer (call.status u) s out (omega arith) refl refl;
+  distance = λ s u v. has-answer (call.distance u v) s [] (omega arith) refl refl;
+  downstream = λ s u v. has-answer (call.downstream u v) s [] (omega arith) refl refl;
+  queue-length = λ s w u. has-answer (call.queueLength w u) s [] (omega arith) refl refl;
+  total-queued = λ s. has-answer call.totalQueued s [] (omega arith) refl refl;
+  status = λ s out left u. has-answer (call.status u) s out (omega arith) refl refl;
   write-event = λ out left e. has-answer (call.writeEvent e) [] out (omega arith) refl refl;
 }

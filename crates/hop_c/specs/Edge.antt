@@ -1,11 +1,12 @@
--- What C callers get of a call's outcome: its number and its answers in a struct, a place for each. A contract equates the struct with this, and the bytes that the call leaves with the outcome's.
+-- What C callers get of a call's outcome: its number and its answers in a struct, a place for each. Answered, Ran, Wrote and Read are the contracts; the calls that answer a number alone have hop_core's Told.
+use mathlib.Core.Path.{_≡_}
 use mathlib.Core.List.{List}
 use Prim.Native.Nat.{ℕ}
 use lib.ListN.{getD}
 use Rattle.hop_rule.specs.Words.{if_then_else_}
 use Rattle.hop_rule.specs.declared.Reading.{Reading}
 use Rattle.hop_rule.specs.Stored.{size}
-use Rattle.hop_rule.specs.Records.{numberOf, answersOf}
+use Rattle.hop_rule.specs.Records.{numberOf, answersOf, readEvent, placeAfter}
 use Rattle.hop_rule.specs.Calls.{Outcome, badCount, answerAt}
 use Rattle.hop_c.specs.declared.HopAnswer.{HopAnswer}
 use Rattle.hop_c.specs.declared.HopRan.{HopRan}
@@ -22,9 +23,23 @@ answer o = record { code = o .number; value = answerAt 0 o }
 abbrev pub ran : Outcome → HopRan
 ran o = record { code = o .number; passes = answerAt 0 o; deliveries = answerAt 1 o }
 
+-- The contracts, for an outcome o: the struct is the outcome's, and so are the bytes that the call leaves, of the state or of the output.
+abbrev pub Answered : Outcome → HopAnswer → List ℕ → Type 0
+Answered o a t = (a ≡ answer o) × (t ≡ o .bytes)
+
+abbrev pub Ran : Outcome → HopRan → List ℕ → Type 0
+Ran o a t = (a ≡ ran o) × (t ≡ o .bytes)
+
+abbrev pub Wrote : Outcome → HopAnswer → List ℕ → Type 0
+Wrote o a left = (a ≡ answer o) × (left ≡ o .output)
+
 -- What was read, as a C caller gets it: the number, the kind and its two numbers; what there is not is 0, so kind 0 is the plain end or a refusal.
 abbrev pub event : ℕ → List ℕ → HopEvent
 event c xs = record { code = c; kind = getD xs 0 0; first = getD xs 1 0; second = getD xs 2 0 }
 
 abbrev pub reading : Reading → HopEvent
 reading r = event (numberOf r) (answersOf r)
+
+-- The contract of reading at a place of s: the event, and the place that is left.
+abbrev pub Read : List ℕ → ℕ → HopEvent → ℕ → Type 0
+Read s place e next = (e ≡ reading (readEvent s place)) × (next ≡ placeAfter (readEvent s place) place)

@@ -15,12 +15,12 @@ ghost use mathlib.Core.Path.{_≡_};
 ghost use mathlib.Core.List.{[], _∷_};
 ghost use Rattle.hop_rule.specs.Calls as call;
 ghost use Rattle.hop_rule.specs.Calls.{outcome};
-ghost use Rattle.hop_rule.specs.Records.{kindOf, bodyOf, readEvent, placeAfter};
+ghost use Rattle.hop_rule.specs.Records.{kindOf, bodyOf};
 ghost use Rattle.hop_core.specs.Answers as core;
-ghost use Rattle.hop_core.specs.Answers.{told, passed};
+ghost use Rattle.hop_core.specs.Answers.{Told, passed};
 ghost use Rattle.hop_ask.specs.Answers.{asked};
 ghost use Rattle.hop_records.specs.Writing.{wrote, wroteEvent};
-ghost use Rattle.hop_c.specs.Edge.{sizeOf, answer, ran, event, reading};
+ghost use Rattle.hop_c.specs.Edge.{sizeOf, answer, ran, Answered, Ran, Wrote, event, reading, Read};
 
 // A number, and one answer.
 #[repr(C)]
@@ -140,49 +140,49 @@ pub extern "C" fn hop_size(n: usize) -> usize
 // The events, and check.
 #[no_mangle]
 pub extern "C" fn hop_make(state: &mut [u8], n: usize) -> u32
-    ensures { λ r. ⌜ told r (now (state .exit)) ≡ outcome (call.make n) (now (state .entry)) [] ⌝ }
+    ensures { λ r. ⌜ Told (call.make n) (now (state .entry)) r (now (state .exit)) ⌝ }
 {
     hop_core::make(state, n)
 }
 
 #[no_mangle]
 pub extern "C" fn hop_check(state: &[u8]) -> u32
-    ensures { λ r. ⌜ told r (now (state .entry)) ≡ outcome call.check (now (state .entry)) [] ⌝ }
+    ensures { λ r. ⌜ Told call.check (now (state .entry)) r (now (state .entry)) ⌝ }
 {
     hop_core::check(state)
 }
 
 #[no_mangle]
 pub extern "C" fn hop_up(state: &mut [u8], a: usize, b: usize) -> u32
-    ensures { λ r. ⌜ told r (now (state .exit)) ≡ outcome (call.up a b) (now (state .entry)) [] ⌝ }
+    ensures { λ r. ⌜ Told (call.up a b) (now (state .entry)) r (now (state .exit)) ⌝ }
 {
     hop_core::up(state, a, b)
 }
 
 #[no_mangle]
 pub extern "C" fn hop_down(state: &mut [u8], a: usize, b: usize) -> u32
-    ensures { λ r. ⌜ told r (now (state .exit)) ≡ outcome (call.down a b) (now (state .entry)) [] ⌝ }
+    ensures { λ r. ⌜ Told (call.down a b) (now (state .entry)) r (now (state .exit)) ⌝ }
 {
     hop_core::down(state, a, b)
 }
 
 #[no_mangle]
 pub extern "C" fn hop_deliver(state: &mut [u8], from: usize, to: usize) -> u32
-    ensures { λ r. ⌜ told r (now (state .exit)) ≡ outcome (call.deliver from to) (now (state .entry)) [] ⌝ }
+    ensures { λ r. ⌜ Told (call.deliver from to) (now (state .entry)) r (now (state .exit)) ⌝ }
 {
     hop_core::deliver(state, from, to)
 }
 
 #[no_mangle]
 pub extern "C" fn hop_pass(state: &mut [u8]) -> HopAnswer
-    ensures { λ r. ⌜ (r ≡ answer (outcome call.pass (now (state .entry)) [])) × (now (state .exit) ≡ outcome call.pass (now (state .entry)) [] .bytes) ⌝ }
+    ensures { λ r. ⌜ Answered (outcome call.pass (now (state .entry)) []) r (now (state .exit)) ⌝ }
 {
     plain_pass(hop_core::pass(state))
 }
 
 #[no_mangle]
 pub extern "C" fn hop_run(state: &mut [u8], allowance: u8) -> HopRan
-    ensures { λ r. ⌜ (r ≡ ran (outcome (call.run allowance) (now (state .entry)) [])) × (now (state .exit) ≡ outcome (call.run allowance) (now (state .entry)) [] .bytes) ⌝ }
+    ensures { λ r. ⌜ Ran (outcome (call.run allowance) (now (state .entry)) []) r (now (state .exit)) ⌝ }
 {
     plain_run(hop_core::run(state, allowance))
 }
@@ -219,23 +219,21 @@ pub extern "C" fn hop_total_queued(state: &[u8]) -> HopAnswer
 // The records.
 #[no_mangle]
 pub extern "C" fn hop_status(state: &[u8], node: usize, out: &mut [u8]) -> HopAnswer
-    ensures { λ r. ⌜ (r ≡ answer (outcome (call.status node) (now (state .entry)) (now (out .entry))))
-        × (now (out .exit) ≡ outcome (call.status node) (now (state .entry)) (now (out .entry)) .output) ⌝ }
+    ensures { λ r. ⌜ Wrote (outcome (call.status node) (now (state .entry)) (now (out .entry))) r (now (out .exit)) ⌝ }
 {
     plain_answer(hop_ask::status(state, node, out))
 }
 
 #[no_mangle]
 pub extern "C" fn hop_write_event(kind: u32, first: u16, second: u16, out: &mut [u8]) -> HopAnswer
-    ensures { λ r. ⌜ (r ≡ answer (wroteEvent kind first second (now (out .entry)))) × (now (out .exit) ≡ wroteEvent kind first second (now (out .entry)) .output) ⌝ }
+    ensures { λ r. ⌜ Wrote (wroteEvent kind first second (now (out .entry))) r (now (out .exit)) ⌝ }
 {
     plain_written(write_kind(kind, first, second, out))
 }
 
 #[no_mangle]
 pub extern "C" fn hop_read_event(bytes: &[u8], place: &mut usize) -> HopEvent
-    ensures { λ r. ⌜ (r ≡ reading (readEvent (now (bytes .entry)) (now (place .entry))))
-        × (now (place .exit) ≡ placeAfter (readEvent (now (bytes .entry)) (now (place .entry))) (now (place .entry))) ⌝ }
+    ensures { λ r. ⌜ Read (now (bytes .entry)) (now (place .entry)) r (now (place .exit)) ⌝ }
 {
     let step = read_from(bytes, *place);
     *place = step.next;

@@ -7,11 +7,9 @@ use hop_judge::judge_make;
 use hop_judge::judge_state;
 use hop_judge::judge_up;
 ghost use mathlib.Core.Path.{_≡_};
-ghost use mathlib.Core.List.{[]};
 ghost use Prim.Native.Nat.{_<_};
 ghost use Rattle.hop_rule.specs.Calls as call;
-ghost use Rattle.hop_rule.specs.Calls.{outcome};
-ghost use Rattle.hop_core.specs.Answers.{told, passed, ran};
+ghost use Rattle.hop_core.specs.Answers.{Told, Passed, Ran};
 
 // What a pass answers: the entries delivered, or the number of a refusal.
 pub enum PassAnswer {
@@ -27,7 +25,7 @@ pub enum RunAnswer {
 
 // A fresh state of n nodes. Refuses 1, 2.
 pub fn make(s: &mut [u8], n: usize) -> u32
-    ensures { λ r. ⌜ told r (now (s .exit)) ≡ outcome (call.make n) (now (s .entry)) [] ⌝ }
+    ensures { λ r. ⌜ Told (call.make n) (now (s .entry)) r (now (s .exit)) ⌝ }
 {
     match judge_make(s, n) {
         Judged::Refused(c) => c,
@@ -40,7 +38,7 @@ pub fn make(s: &mut [u8], n: usize) -> u32
 
 // Is the state sound? Refuses 2, 1, 2, 3.
 pub fn check(s: &[u8]) -> u32
-    ensures { λ r. ⌜ told r (now (s .entry)) ≡ outcome call.check (now (s .entry)) [] ⌝ }
+    ensures { λ r. ⌜ Told call.check (now (s .entry)) r (now (s .entry)) ⌝ }
 {
     match judge_state(s) {
         Judged::Refused(c) => c,
@@ -50,7 +48,7 @@ pub fn check(s: &[u8]) -> u32
 
 // The link between a and b comes up. Refuses 2, 1, 2, 3, 4, 5, 6.
 pub fn up(s: &mut [u8], a: usize, b: usize) -> u32
-    ensures { λ r. ⌜ told r (now (s .exit)) ≡ outcome (call.up a b) (now (s .entry)) [] ⌝ }
+    ensures { λ r. ⌜ Told (call.up a b) (now (s .entry)) r (now (s .exit)) ⌝ }
 {
     match judge_up(s, a, b) {
         Judged::Refused(c) => c,
@@ -63,7 +61,7 @@ pub fn up(s: &mut [u8], a: usize, b: usize) -> u32
 
 // The link between a and b goes down, at both ends at one moment. Refuses 2, 1, 2, 3, 4, 5, 7.
 pub fn down(s: &mut [u8], a: usize, b: usize) -> u32
-    ensures { λ r. ⌜ told r (now (s .exit)) ≡ outcome (call.down a b) (now (s .entry)) [] ⌝ }
+    ensures { λ r. ⌜ Told (call.down a b) (now (s .entry)) r (now (s .exit)) ⌝ }
 {
     match judge_down(s, a, b) {
         Judged::Refused(c) => c,
@@ -76,7 +74,7 @@ pub fn down(s: &mut [u8], a: usize, b: usize) -> u32
 
 // The head of the queue from w to u is delivered. Refuses 2, 1, 2, 3, 4, 5, 7, 8.
 pub fn deliver(s: &mut [u8], w: usize, u: usize) -> u32
-    ensures { λ r. ⌜ told r (now (s .exit)) ≡ outcome (call.deliver w u) (now (s .entry)) [] ⌝ }
+    ensures { λ r. ⌜ Told (call.deliver w u) (now (s .entry)) r (now (s .exit)) ⌝ }
 {
     match judge_deliver(s, w, u) {
         Judged::Refused(c) => c,
@@ -89,7 +87,7 @@ pub fn deliver(s: &mut [u8], w: usize, u: usize) -> u32
 
 // One pass. Refuses 2, 1, 2, 3.
 pub fn pass(s: &mut [u8]) -> PassAnswer
-    ensures { λ r. ⌜ passed r (now (s .exit)) ≡ outcome call.pass (now (s .entry)) [] ⌝ }
+    ensures { λ r. ⌜ Passed (now (s .entry)) r (now (s .exit)) ⌝ }
 {
     match judge_state(s) {
         Judged::Refused(c) => PassAnswer::Refused(c),
@@ -109,7 +107,7 @@ fn count(allowance: u8) -> u32
 
 // Passes until every queue is empty or the allowance is used up. Refuses 2, 1, 2, 3.
 pub fn run(s: &mut [u8], allowance: u8) -> RunAnswer
-    ensures { λ r. ⌜ ran r (now (s .exit)) ≡ outcome (call.run allowance) (now (s .entry)) [] ⌝ }
+    ensures { λ r. ⌜ Ran allowance (now (s .entry)) r (now (s .exit)) ⌝ }
 {
     match judge_state(s) {
         Judged::Refused(c) => RunAnswer::Refused(c),

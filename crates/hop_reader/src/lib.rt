@@ -3,8 +3,8 @@
 use hop_records::read_event;
 use hop_rule::Reading;
 ghost use mathlib.Core.Path.{_≡_};
-ghost use Rattle.hop_rule.specs.Records.{readEvent, placeAfter};
-ghost use Rattle.hop_reader.specs.Stepping.{stepAt};
+ghost use Rattle.hop_rule.specs.Records.{placeAfter};
+ghost use Rattle.hop_reader.specs.Stepping.{MadeAt, ReadsNext, stepAt};
 
 // What was read at a place, and the place to read at next.
 pub struct Step {
@@ -41,16 +41,14 @@ pub struct Reader<'a> {
 
 // A reader at a place: at 0 the first record is read next.
 pub fn reader_at<'a>(src: &'a [u8], at: usize) -> Reader<'a>
-    ensures { λ r. ⌜ (r .src ≡ src .entry) × (r .at ≡ at) ⌝ }
+    ensures { λ r. ⌜ MadeAt (src .entry) at (r .src) (r .at) ⌝ }
 {
     Reader { src, at }
 }
 
 // Reads the record at the reader's place, and moves the place past it.
 pub fn read_next<'s, 'a>(r: &'s mut Reader<'a>) -> Reading
-    ensures { λ reading. ⌜ (reading ≡ readEvent (now (now (r .entry) .src)) (now (r .entry) .at))
-        × (now (r .exit) .src ≡ now (r .entry) .src)
-        × (now (r .exit) .at ≡ placeAfter reading (now (r .entry) .at)) ⌝ }
+    ensures { λ reading. ⌜ ReadsNext (now (now (r .entry) .src)) (now (r .entry) .src) (now (r .entry) .at) reading (now (r .exit) .src) (now (r .exit) .at) ⌝ }
 {
     let step = step_at(r.src, r.at);
     r.at = step.next;

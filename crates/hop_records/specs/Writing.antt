@@ -1,4 +1,5 @@
 -- 01, 'Records': what the enum `Written` says in the words of 'Refusal numbers', an event in plain numbers, and what writing a record gives. Uses hop_rule's Records and Calls.
+use mathlib.Core.Path.{_≡_}
 use mathlib.Core.List.{List, [], _∷_}
 use Prim.Native.Nat.{ℕ}
 use lib.Dec.{ltb}
@@ -23,6 +24,10 @@ answers (Refused c) = []
 -- The outcome of a call that writes to an output alone, with the output's bytes as the call leaves them.
 abbrev pub wrote : Written → List ℕ → Outcome
 wrote w out = record { number = number w; answers = answers w; bytes = []; output = out }
+
+-- The contract of a writer: the answer and the bytes left in the output make the outcome.
+abbrev pub Writes : Outcome → Written → List ℕ → Type 0
+Writes o w left = wrote w left ≡ o
 
 -- A record is written where there is room for it, and refused with 2 where there is none.
 unfoldable pub tried : List ℕ → List ℕ → Outcome

@@ -9,7 +9,7 @@ ghost use lib.ListN.{length};
 ghost use lib.Seq.{sets};
 ghost use Rattle.hop_rule.specs.Records.{words, wordAt, recordOf, known, lengthOf, eventAt, readEvent, written};
 ghost use Rattle.hop_rule.specs.Calls.{writeEvent, outcome};
-ghost use Rattle.hop_records.specs.Writing.{wrote, tried, numbersOf, wroteEvent, knownLength};
+ghost use Rattle.hop_records.specs.Writing.{Writes, tried, numbersOf, wroteEvent, knownLength};
 
 // What writing a record gives: the bytes written, or the number of the refusal.
 pub enum Written {
@@ -80,7 +80,7 @@ fn write_pair(out: &mut [u8], at: usize, x: u16, y: u16)
 
 // A record of a kind whose body has no number, one, or two.
 fn write_none(kind: u16, out: &mut [u8]) -> Written
-    ensures { λ r. ⌜ wrote r (now (out .exit)) ≡ tried (recordOf kind []) (now (out .entry)) ⌝ }
+    ensures { λ r. ⌜ Writes (tried (recordOf kind []) (now (out .entry))) r (now (out .exit)) ⌝ }
 {
     if out.len() < 4 {
         return Written::Refused(2);
@@ -90,7 +90,7 @@ fn write_none(kind: u16, out: &mut [u8]) -> Written
 }
 
 fn write_one(kind: u16, a: u16, out: &mut [u8]) -> Written
-    ensures { λ r. ⌜ wrote r (now (out .exit)) ≡ tried (recordOf kind (a ∷ [])) (now (out .entry)) ⌝ }
+    ensures { λ r. ⌜ Writes (tried (recordOf kind (a ∷ [])) (now (out .entry))) r (now (out .exit)) ⌝ }
 {
     if out.len() < 6 {
         return Written::Refused(2);
@@ -101,7 +101,7 @@ fn write_one(kind: u16, a: u16, out: &mut [u8]) -> Written
 }
 
 fn write_two(kind: u16, a: u16, b: u16, out: &mut [u8]) -> Written
-    ensures { λ r. ⌜ wrote r (now (out .exit)) ≡ tried (recordOf kind (a ∷ b ∷ [])) (now (out .entry)) ⌝ }
+    ensures { λ r. ⌜ Writes (tried (recordOf kind (a ∷ b ∷ [])) (now (out .entry))) r (now (out .exit)) ⌝ }
 {
     if out.len() < 8 {
         return Written::Refused(2);
@@ -113,7 +113,7 @@ fn write_two(kind: u16, a: u16, b: u16, out: &mut [u8]) -> Written
 
 // Writing the event that a kind and two numbers say, for callers that have it so. By how many numbers the kind has: this is faster than a way for each kind.
 pub fn write_kind(kind: u32, first: u16, second: u16, out: &mut [u8]) -> Written
-    ensures { λ r. ⌜ wrote r (now (out .exit)) ≡ wroteEvent kind first second (now (out .entry)) ⌝ }
+    ensures { λ r. ⌜ Writes (wroteEvent kind first second (now (out .entry))) r (now (out .exit)) ⌝ }
 {
     let size = length_of(kind);
     if size == 0 {
@@ -129,7 +129,7 @@ pub fn write_kind(kind: u32, first: u16, second: u16, out: &mut [u8]) -> Written
 
 // Writing an event, for callers in Rattle. It needs its length + 2 bytes; the bytes after them stay.
 pub fn write_event(e: Event, out: &mut [u8]) -> Written
-    ensures { λ r. ⌜ wrote r (now (out .exit)) ≡ outcome (writeEvent e) [] (now (out .entry)) ⌝ }
+    ensures { λ r. ⌜ Writes (outcome (writeEvent e) [] (now (out .entry))) r (now (out .exit)) ⌝ }
 {
     let p = numbers_of(e);
     write_kind(p.kind, p.first, p.second, out)

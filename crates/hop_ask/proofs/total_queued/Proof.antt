@@ -20,8 +20,8 @@ enum-known-n c = search needs
 queued-requires : tie.Need-queued-requires
 queued-requires c κs = room-known _ [] (c .before .before .before .judge-state .ensures) (c .before .n .given .1)
 
-cast-t7 : tie.Need-cast-t7
-cast-t7 c = search needs
+value-requires : tie.Need-value-requires
+value-requires c κs = search needs
 
 returns : tie.Need-returns
 unfolding refusals
@@ -30,8 +30,8 @@ returns c = call-refused _ _ _ _ (c .before .before .before .judge-state .ensure
 returns-2 : tie.Need-returns-2
 unfolding refusals
 returns-2 c =
-    let at-n = c .before .before in
-    total-asked _ (at-n .n .given .1) (at-n .before .before .judge-state .ensures) (c .queued .ensures .0)
+    let at-n = c .before .before .before in
+    rw (c .value .ensures) (total-asked _ (at-n .n .given .1) (at-n .before .before .judge-state .ensures) (c .before .queued .ensures .0))
 
 pub total-queued-spec : {M : Type 1} → statement M
 total-queued-spec =
@@ -41,6 +41,6 @@ total-queued-spec =
     enum-known-c
     enum-known-n
     queued-requires
-    cast-t7
+    value-requires
     returns
     returns-2)
