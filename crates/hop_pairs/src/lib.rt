@@ -7,7 +7,8 @@ ghost use Prim.Native.Nat.{_+_, _*_, _-_, _<_, _≤_};
 ghost use Rattle.hop_rule.specs.declared.Table.the-variants.{Destinations};
 ghost use Rattle.hop_rule.specs.Words.{every};
 ghost use Rattle.hop_cells.specs.Cells.{Room};
-ghost use Rattle.hop_rows.specs.Rows.{row, allBelow, rising};
+ghost use Rattle.hop_rows.specs.Rows.{row, allBelow};
+ghost use Rattle.hop_sound_rows.specs.SoundRows.{rising};
 ghost use Rattle.hop_pairs.specs.Pairs as check;
 
 // The link byte is 0 or 1, the same at both ends, and 0 on the diagonal.
@@ -57,7 +58,7 @@ fn told_sound(s: &[u8], n: usize, u: usize, w: usize, m: usize) -> bool
     requires { ⌜ Room n (now s) × (u < n) × (w < n) × (m ≤ n) × (allBelow (now s) (row n Destinations (w * n + u)) m n ≡ true) ⌝ }
     ensures { λ r. ⌜ r ≡ check.toldSound n (now (s .entry)) u w m ⌝ }
 {
-    hop_rows::all_told(
+    hop_sound_rows::all_told(
         s,
         n,
         hop_rows::row3(n, Table::Views, u, w),
@@ -96,7 +97,7 @@ fn mixed_sound(s: &[u8], n: usize, u: usize, w: usize, m: usize) -> bool
     if !hop_rows::all_below(s, destinations, m, n as u8) {
         return false;
     }
-    if !hop_rows::differing(s, destinations, m) {
+    if !hop_sound_rows::differing(s, destinations, m) {
         return false;
     }
     told_sound(s, n, u, w, m)
@@ -106,7 +107,7 @@ fn busy_sound(s: &[u8], n: usize, u: usize, w: usize, m: usize) -> bool
     requires { ⌜ Room n (now s) × (u < n) × (w < n) × (m ≤ n) × (0 < m) ⌝ }
     ensures { λ r. ⌜ r ≡ check.busySound n (now (s .entry)) u w m ⌝ }
 {
-    if hop_rows::rising(s, hop_rows::row3(n, Table::Destinations, w, u), m - 1) {
+    if hop_sound_rows::rising(s, hop_rows::row3(n, Table::Destinations, w, u), m - 1) {
         return ordered_sound(s, n, u, w, m);
     }
     mixed_sound(s, n, u, w, m)
@@ -135,7 +136,7 @@ fn up_sound(s: &[u8], n: usize, u: usize, w: usize) -> bool
         return false;
     }
     let views = hop_rows::row3(n, Table::Views, u, w);
-    hop_rows::all_allow(
+    hop_sound_rows::all_allow(
         s,
         n as u8,
         w as u8,

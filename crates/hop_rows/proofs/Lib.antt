@@ -1,5 +1,3 @@
 pub mod Inside
 pub mod Every
-pub mod ToldRows
 pub mod RowTests
-pub mod RisingRows

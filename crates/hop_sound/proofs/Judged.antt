@@ -18,7 +18,8 @@ use Rattle.hop_cells.specs.Cells.{get}
 use Rattle.hop_rows.specs.Rows.{row, byte, bothAre}
 use Rattle.hop_pairs.specs.Pairs.{linkSound, downSound, idleSound, toldSound, busySound, queueSound, upSound, pairSound}
 use Rattle.hop_sound.specs.Check.{routeSound, viewsSound, pastSound, sentSound, nodeSound, allSound}
-use Rattle.hop_rows.proofs.RowTests.{Reads, Allows, tells-are, tells-both, tells-below, tells-differing, tells-same-rows, tells-allow, tells-told}
+use Rattle.hop_rows.proofs.RowTests.{Reads, tells-are, tells-both, tells-below, tells-same-rows}
+use Rattle.hop_sound_rows.proofs.SoundTests.{Allows, tells-differing, tells-allow, tells-told}
 use Rattle.hop_sound.proofs.Routes.{Given}
 
 -- A choice of tests tells what each of them tells in its case.

@@ -5,10 +5,11 @@ use Prim.Native.Nat.{_-_, _≤_}
 use native.Mathlib.Omega.{arith}
 use borrow.Author.Needs.{needs}
 use Rattle.hop_rule.specs.Words.{every}
-use Rattle.hop_rows.specs.Rows.{byte, noneIs, differing}
+use Rattle.hop_rows.specs.Rows.{byte, noneIs}
 use Rattle.hop_rows.proofs.Every.{fails, passes, every-none, every-stays, every-fails, every-done}
-use Rattle.hop_rows.proofs.differing.Statement.{statement}
-use Rattle.hop_rows.proofs.differing.Tie as tie
+use Rattle.hop_sound_rows.specs.SoundRows.{differing}
+use Rattle.hop_sound_rows.proofs.differing.Statement.{statement}
+use Rattle.hop_sound_rows.proofs.differing.Tie as tie
 
 abbrev Inv-loop : tie.InvT-loop
 Inv-loop s at k i₀ i = (i ≤ k) × (true ≡ every i (λ j. noneIs s at j (byte s at j)))

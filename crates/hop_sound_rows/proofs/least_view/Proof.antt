@@ -1,8 +1,8 @@
 -- `least_view` meets its contract, case by case. Assumes nothing.
 use borrow.Author.Needs.{needs}
-use Rattle.hop_rows.specs.Rows.{leastView}
-use Rattle.hop_rows.proofs.least_view.Statement.{statement}
-use Rattle.hop_rows.proofs.least_view.Tie as tie
+use Rattle.hop_sound_rows.specs.SoundRows.{leastView}
+use Rattle.hop_sound_rows.proofs.least_view.Statement.{statement}
+use Rattle.hop_sound_rows.proofs.least_view.Tie as tie
 
 less-requires : tie.Need-less-requires
 less-requires c κs = search needs

@@ -3,11 +3,12 @@ use mathlib.Core.Path.{refl}
 use Prim.Native.Nat.{ℕ, _-_, _≤_, _<_}
 use native.Mathlib.Omega.{arith}
 use borrow.Author.Needs.{needs}
-use Rattle.hop_rows.specs.Rows.{byte, Told}
+use Rattle.hop_rows.specs.Rows.{byte}
 use Rattle.hop_rows.proofs.RowTests.{tells-below}
-use Rattle.hop_rows.proofs.ToldRows.{told-none, told-more, told-done}
-use Rattle.hop_rows.proofs.told.Statement.{statement}
-use Rattle.hop_rows.proofs.told.Tie as tie
+use Rattle.hop_sound_rows.specs.SoundRows.{Told}
+use Rattle.hop_sound_rows.proofs.ToldRows.{told-none, told-more, told-done}
+use Rattle.hop_sound_rows.proofs.told.Statement.{statement}
+use Rattle.hop_sound_rows.proofs.told.Tie as tie
 
 abbrev Inv-loop : tie.InvT-loop
 Inv-loop s n views destinations values k heard₀ p₀ heard p = (p ≤ k) × Told s n views destinations values p heard × ((q : ℕ) → q < k → byte s destinations q < n)

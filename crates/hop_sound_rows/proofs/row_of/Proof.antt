@@ -6,9 +6,9 @@ use lib.ListN.{length, getD, length-set}
 use lib.Seq.{getD-set-same, getD-set-other}
 use borrow.Author.Count.{below-none, below-more}
 use borrow.Author.Needs.{needs}
 use Rattle.hop_rows.specs.Rows.{byte}
-use Rattle.hop_rows.proofs.row_of.Statement.{statement}
-use Rattle.hop_rows.proofs.row_of.Tie as tie
+use Rattle.hop_sound_rows.proofs.row_of.Statement.{statement}
+use Rattle.hop_sound_rows.proofs.row_of.Tie as tie
 
 abbrev Inv-loop : tie.InvT-loop
 Inv-loop s at k bytes₀ i₀ bytes i = (i ≤ k) × (length bytes ≡ 40) × ((j : ℕ) → j < i → getD bytes j 0 ≡ byte s at j)

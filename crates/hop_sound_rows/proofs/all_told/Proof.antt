@@ -5,11 +5,12 @@ use native.Mathlib.Omega.{arith}
 use lib.Dec.{eqb}
 use borrow.Author.Needs.{needs}
 use Rattle.hop_rule.specs.Words.{every}
-use Rattle.hop_rows.specs.Rows.{byte, toldByte, allTold}
+use Rattle.hop_rows.specs.Rows.{byte}
 use Rattle.hop_rows.proofs.Every.{every-none, every-turn, every-done}
-use Rattle.hop_rows.proofs.ToldRows.{told-equal, told-unequal}
-use Rattle.hop_rows.proofs.all_told.Statement.{statement}
-use Rattle.hop_rows.proofs.all_told.Tie as tie
+use Rattle.hop_sound_rows.specs.SoundRows.{toldByte, allTold}
+use Rattle.hop_sound_rows.proofs.ToldRows.{told-equal, told-unequal}
+use Rattle.hop_sound_rows.proofs.all_told.Statement.{statement}
+use Rattle.hop_sound_rows.proofs.all_told.Tie as tie
 
 abbrev Inv-loop : tie.InvT-loop
 Inv-loop s n views distances destinations values k heard ok₀ v₀ ok v = (v ≤ n) × (ok ≡ every v (λ j. eqb (toldByte s views destinations values k j) (byte s distances j)))

@@ -8,10 +8,12 @@ use native.Mathlib.Omega.{arith}
 use lib.Dec.{eqb}
 use lib.ListN.{getD}
 use Rattle.hop_laws.proofs.Tests.{tells-lt, tells-every, tells-false}
-use Rattle.hop_rows.specs.Rows.{byte, allBelow, same, differing, rising, toldByte, allTold}
+use Rattle.hop_rows.specs.Rows.{byte, allBelow, same}
 use Rattle.hop_rows.proofs.Every.{every-as}
-use Rattle.hop_rows.proofs.RowTests.{tells-below, tells-differing}
-use Rattle.hop_rows.proofs.ToldRows.{told-there}
+use Rattle.hop_rows.proofs.RowTests.{tells-below}
+use Rattle.hop_sound_rows.specs.SoundRows.{differing, rising, toldByte, allTold}
+use Rattle.hop_sound_rows.proofs.SoundTests.{tells-differing}
+use Rattle.hop_sound_rows.proofs.ToldRows.{told-there}
 
 -- What rises at each step has risen by as many as there are steps.
 climbs : (f : ℕ → ℕ) (k : ℕ) → ((i : ℕ) → i < k → f i < f (suc i)) → (i j : ℕ) → i ≤ j → j ≤ k → f i + (j - i) ≤ f j

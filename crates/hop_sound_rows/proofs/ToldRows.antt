@@ -13,7 +13,8 @@ use lib.ListN.{length, getD, set, length-set}
 use lib.Seq.{getD-set-same, getD-set-other}
 use borrow.Author.Tests.{eq-eqb, ne-eqb}
 use Rattle.hop_laws.proofs.Tests.{tells-eq, choose-so, choose-else}
-use Rattle.hop_rows.specs.Rows.{byte, told, toldByte, Told}
+use Rattle.hop_rows.specs.Rows.{byte}
+use Rattle.hop_sound_rows.specs.SoundRows.{told, toldByte, Told}
 
 -- Only what the rows hold matters.
 pub told-as : {x x′ a a′ b b′ : ℕ → ℕ} → ((i : ℕ) → x i ≡ x′ i) → ((i : ℕ) → a i ≡ a′ i) → ((i : ℕ) → b i ≡ b′ i) → (k v : ℕ) → told x a b k v ≡ told x′ a′ b′ k v

@@ -5,11 +5,12 @@ use native.Mathlib.Omega.{arith}
 use lib.Dec.{leb}
 use borrow.Author.Needs.{needs}
 use Rattle.hop_rule.specs.Words.{every}
-use Rattle.hop_rows.specs.Rows.{byte, leastView, allAllow}
+use Rattle.hop_rows.specs.Rows.{byte}
 use Rattle.hop_rows.proofs.Every.{every-none, every-turn, every-done}
-use Rattle.hop_rows.proofs.RowTests.{below-least, reaches-least}
-use Rattle.hop_rows.proofs.all_allow.Statement.{statement}
-use Rattle.hop_rows.proofs.all_allow.Tie as tie
+use Rattle.hop_sound_rows.specs.SoundRows.{leastView, allAllow}
+use Rattle.hop_sound_rows.proofs.SoundTests.{below-least, reaches-least}
+use Rattle.hop_sound_rows.proofs.all_allow.Statement.{statement}
+use Rattle.hop_sound_rows.proofs.all_allow.Tie as tie
 
 abbrev Inv-loop : tie.InvT-loop
 Inv-loop s n w views distances downstreams k ok₀ v₀ ok v = (v ≤ k) × (ok ≡ every v (λ j. leb (leastView n w (byte s distances j) (byte s downstreams j)) (byte s views j)))

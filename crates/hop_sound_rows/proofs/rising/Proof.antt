@@ -5,10 +5,11 @@ use native.Mathlib.Omega.{arith}
 use lib.Dec.{ltb}
 use borrow.Author.Tests.{lt-ltb, le-ltb}
 use Rattle.hop_rule.specs.Words.{every}
-use Rattle.hop_rows.specs.Rows.{byte, rising}
+use Rattle.hop_rows.specs.Rows.{byte}
 use Rattle.hop_rows.proofs.Every.{every-none, every-turn, every-done}
-use Rattle.hop_rows.proofs.rising.Statement.{statement}
-use Rattle.hop_rows.proofs.rising.Tie as tie
+use Rattle.hop_sound_rows.specs.SoundRows.{rising}
+use Rattle.hop_sound_rows.proofs.rising.Statement.{statement}
+use Rattle.hop_sound_rows.proofs.rising.Tie as tie
 
 abbrev Inv-loop : tie.InvT-loop
 Inv-loop s at k ok₀ i₀ ok i = (i ≤ k) × (ok ≡ every i (λ j. ltb (byte s at j) (byte s (at + 1) j)))

@@ -1,0 +1,3 @@
+pub mod ToldRows
+pub mod SoundTests
+pub mod RisingRows
