@@ -16,7 +16,7 @@ use Rattle.hop_rule.specs.Stored.{flat, deep, readAs}
 use Rattle.hop_laws.proofs.Tests.{Tells, true-not-false, tells-as, tells-not-so, tells-eq, tells-le, tells-lt, tells-not, tells-and, tells-or, tells-every}
 use Rattle.hop_cells.specs.Cells.{get}
 use Rattle.hop_rows.specs.Rows.{row, byte, bothAre}
-use Rattle.hop_pairs.specs.Pairs.{linkSound, downSound, idleSound, toldSound, busySound, queueSound, upSound, pairSound}
+use Rattle.hop_sound_pairs.specs.Pairs.{linkSound, downSound, idleSound, toldSound, busySound, queueSound, upSound, pairSound}
 use Rattle.hop_sound.specs.Check.{routeSound, viewsSound, pastSound, sentSound, nodeSound, allSound}
 use Rattle.hop_rows.proofs.RowTests.{Reads, tells-are, tells-both, tells-below, tells-same-rows}
 use Rattle.hop_sound_rows.proofs.SoundTests.{Allows, tells-differing, tells-allow, tells-told}

@@ -7,7 +7,7 @@ use Rattle.hop_rule.specs.declared.Table.the-variants.{Links, Distances, Downst
 use Rattle.hop_rule.specs.Words.{if_then_else_, every}
 use Rattle.hop_cells.specs.Cells.{get2, get3}
 use Rattle.hop_rows.specs.Rows.{row, allAre, bothAre, allBelow}
-use Rattle.hop_pairs.specs.Pairs.{pairSound}
+use Rattle.hop_sound_pairs.specs.Pairs.{pairSound}
 
 -- u's views are at most n.
 unfoldable pub viewsSound : ℕ → List ℕ → ℕ → Bool

@@ -109,7 +109,7 @@ pub fn node_sound(s: &[u8], n: usize, u: usize) -> bool
     if !views_sound(s, n, u) {
         return false;
     }
-    if !hop_pairs::pairs_sound(s, n, u) {
+    if !hop_sound_pairs::pairs_sound(s, n, u) {
         return false;
     }
     if !routes_sound(s, n, u) {

@@ -1,9 +1,9 @@
 -- `down_sound` meets its contract: each way out is a case of the test. Assumes nothing.
 use borrow.Author.Needs.{needs}
 use borrow.Author.Tests.{eq-eqb, ne-eqb}
-use Rattle.hop_pairs.specs.Pairs.{downSound}
-use Rattle.hop_pairs.proofs.down_sound.Statement.{statement}
-use Rattle.hop_pairs.proofs.down_sound.Tie as tie
+use Rattle.hop_sound_pairs.specs.Pairs.{downSound}
+use Rattle.hop_sound_pairs.proofs.down_sound.Statement.{statement}
+use Rattle.hop_sound_pairs.proofs.down_sound.Tie as tie
 
 get2-requires : tie.Need-get2-requires
 get2-requires c κs = search needs

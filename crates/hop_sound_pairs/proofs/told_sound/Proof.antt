@@ -1,8 +1,8 @@
 -- `told_sound` meets its contract: it is one test on five rows. Assumes nothing.
 use borrow.Author.Needs.{needs}
-use Rattle.hop_pairs.specs.Pairs.{toldSound}
-use Rattle.hop_pairs.proofs.told_sound.Statement.{statement}
-use Rattle.hop_pairs.proofs.told_sound.Tie as tie
+use Rattle.hop_sound_pairs.specs.Pairs.{toldSound}
+use Rattle.hop_sound_pairs.proofs.told_sound.Statement.{statement}
+use Rattle.hop_sound_pairs.proofs.told_sound.Tie as tie
 
 row3-requires : tie.Need-row3-requires
 row3-requires c κs = search needs

@@ -1,9 +1,9 @@
 -- `pair_sound` meets its contract: each way out is a case of the test. Assumes nothing.
 use borrow.Author.Needs.{needs}
 use borrow.Author.Tests.{eq-eqb, ne-eqb, not-true, not-false}
-use Rattle.hop_pairs.specs.Pairs.{pairSound}
-use Rattle.hop_pairs.proofs.pair_sound.Statement.{statement}
-use Rattle.hop_pairs.proofs.pair_sound.Tie as tie
+use Rattle.hop_sound_pairs.specs.Pairs.{pairSound}
+use Rattle.hop_sound_pairs.proofs.pair_sound.Statement.{statement}
+use Rattle.hop_sound_pairs.proofs.pair_sound.Tie as tie
 
 link-sound-requires : tie.Need-link-sound-requires
 link-sound-requires c κs = search needs

@@ -1,9 +1,9 @@
 -- `ordered_sound` meets its contract: what is left to judge of a queue in order. Assumes nothing.
 use mathlib.Core.Path.{_∙_}
 use borrow.Author.Needs.{needs}
-use Rattle.hop_pairs.proofs.Ordered.{busy-over, busy-below, busy-told, busy-full}
-use Rattle.hop_pairs.proofs.ordered_sound.Statement.{statement}
-use Rattle.hop_pairs.proofs.ordered_sound.Tie as tie
+use Rattle.hop_sound_pairs.proofs.Ordered.{busy-over, busy-below, busy-told, busy-full}
+use Rattle.hop_sound_pairs.proofs.ordered_sound.Statement.{statement}
+use Rattle.hop_sound_pairs.proofs.ordered_sound.Tie as tie
 
 sub-get3 : tie.Need-sub-get3
 sub-get3 c = search needs

@@ -1,8 +1,8 @@
 -- `busy_sound` meets its contract: both ways find out the same. Assumes nothing.
 use mathlib.Core.Path.{sym, _∙_}
 use borrow.Author.Needs.{needs}
-use Rattle.hop_pairs.proofs.busy_sound.Statement.{statement}
-use Rattle.hop_pairs.proofs.busy_sound.Tie as tie
+use Rattle.hop_sound_pairs.proofs.busy_sound.Statement.{statement}
+use Rattle.hop_sound_pairs.proofs.busy_sound.Tie as tie
 
 row3-requires : tie.Need-row3-requires
 row3-requires c κs = search needs

@@ -9,7 +9,7 @@ ghost use Rattle.hop_rule.specs.Words.{every};
 ghost use Rattle.hop_cells.specs.Cells.{Room};
 ghost use Rattle.hop_rows.specs.Rows.{row, allBelow};
 ghost use Rattle.hop_sound_rows.specs.SoundRows.{rising};
-ghost use Rattle.hop_pairs.specs.Pairs as check;
+ghost use Rattle.hop_sound_pairs.specs.Pairs as check;
 
 // The link byte is 0 or 1, the same at both ends, and 0 on the diagonal.
 fn link_sound(s: &[u8], n: usize, u: usize, w: usize) -> bool

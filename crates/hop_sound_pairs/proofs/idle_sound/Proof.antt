@@ -1,8 +1,8 @@
 -- `idle_sound` meets its contract: the rows stand where the test has them. Assumes nothing.
 use borrow.Author.Needs.{needs}
-use Rattle.hop_pairs.specs.Pairs.{idleSound}
-use Rattle.hop_pairs.proofs.idle_sound.Statement.{statement}
-use Rattle.hop_pairs.proofs.idle_sound.Tie as tie
+use Rattle.hop_sound_pairs.specs.Pairs.{idleSound}
+use Rattle.hop_sound_pairs.proofs.idle_sound.Statement.{statement}
+use Rattle.hop_sound_pairs.proofs.idle_sound.Tie as tie
 
 row3-requires : tie.Need-row3-requires
 row3-requires c κs = search needs

@@ -10,7 +10,7 @@ use Rattle.hop_cells.specs.Cells.{get, get3}
 use Rattle.hop_rows.specs.Rows.{row, byte, allBelow, same}
 use Rattle.hop_sound_rows.specs.SoundRows.{rising}
 use Rattle.hop_sound_rows.proofs.RisingRows.{rising-differs, rising-over, rising-below, rising-full}
-use Rattle.hop_pairs.specs.Pairs.{toldSound, busySound}
+use Rattle.hop_sound_pairs.specs.Pairs.{toldSound, busySound}
 
 module _ (n : ℕ) (s : List ℕ) (u w m : ℕ) (some : 0 < m) (e : rising s (row n Destinations (w * n + u)) (m - 1) ≡ true) {x : ℕ} (last : x ≡ get3 n Destinations w u (m - 1) s) where
   last-byte : x ≡ byte s (row n Destinations (w * n + u)) (m - 1)

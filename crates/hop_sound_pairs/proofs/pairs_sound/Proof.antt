@@ -5,10 +5,10 @@ use Prim.Native.Nat.{_-_, _≤_}
 use native.Mathlib.Omega.{arith}
 use borrow.Author.Needs.{needs}
 use Rattle.hop_rule.specs.Words.{every}
-use Rattle.hop_pairs.specs.Pairs.{pairSound}
+use Rattle.hop_sound_pairs.specs.Pairs.{pairSound}
 use Rattle.hop_rows.proofs.Every.{fails, passes, every-none, every-stays, every-fails, every-done}
-use Rattle.hop_pairs.proofs.pairs_sound.Statement.{statement}
-use Rattle.hop_pairs.proofs.pairs_sound.Tie as tie
+use Rattle.hop_sound_pairs.proofs.pairs_sound.Statement.{statement}
+use Rattle.hop_sound_pairs.proofs.pairs_sound.Tie as tie
 
 abbrev Inv-loop : tie.InvT-loop
 Inv-loop s n u w₀ w = (w ≤ n) × (true ≡ every w (pairSound n s u))

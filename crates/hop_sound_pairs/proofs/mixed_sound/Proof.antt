@@ -1,10 +1,10 @@
 -- `mixed_sound` meets its contract: each way out is a case of the test. Assumes nothing.
 use borrow.Author.Needs.{needs}
 use borrow.Author.Tests.{not-true, not-false}
-use Rattle.hop_pairs.specs.Pairs.{busySound}
+use Rattle.hop_sound_pairs.specs.Pairs.{busySound}
 use Rattle.hop_rows.proofs.Every.{passes}
-use Rattle.hop_pairs.proofs.mixed_sound.Statement.{statement}
-use Rattle.hop_pairs.proofs.mixed_sound.Tie as tie
+use Rattle.hop_sound_pairs.proofs.mixed_sound.Statement.{statement}
+use Rattle.hop_sound_pairs.proofs.mixed_sound.Tie as tie
 
 row3-requires : tie.Need-row3-requires
 row3-requires c κs = search needs

@@ -1,9 +1,9 @@
 -- `up_sound` meets its contract: each way out is a case of the test. Assumes nothing.
 use borrow.Author.Needs.{needs}
 use borrow.Author.Tests.{not-true, not-false}
-use Rattle.hop_pairs.specs.Pairs.{upSound}
-use Rattle.hop_pairs.proofs.up_sound.Statement.{statement}
-use Rattle.hop_pairs.proofs.up_sound.Tie as tie
+use Rattle.hop_sound_pairs.specs.Pairs.{upSound}
+use Rattle.hop_sound_pairs.proofs.up_sound.Statement.{statement}
+use Rattle.hop_sound_pairs.proofs.up_sound.Tie as tie
 
 queue-sound-requires : tie.Need-queue-sound-requires
 queue-sound-requires c κs = search needs

@@ -1,9 +1,9 @@
 -- `queue_sound` meets its contract: each way out is a case of the test. Assumes nothing.
 use borrow.Author.Needs.{needs}
 use borrow.Author.Tests.{le-leb, lt-leb, eq-eqb, ne-eqb}
-use Rattle.hop_pairs.specs.Pairs.{queueSound}
-use Rattle.hop_pairs.proofs.queue_sound.Statement.{statement}
-use Rattle.hop_pairs.proofs.queue_sound.Tie as tie
+use Rattle.hop_sound_pairs.specs.Pairs.{queueSound}
+use Rattle.hop_sound_pairs.proofs.queue_sound.Statement.{statement}
+use Rattle.hop_sound_pairs.proofs.queue_sound.Tie as tie
 
 get2-requires : tie.Need-get2-requires
 get2-requires c κs = search needs
