@@ -16,7 +16,7 @@ use Rattle.hop_laws.proofs.Records.{length-status}
 use Rattle.hop_laws.proofs.Ceiling.{total-fits, waiting-for-fits, waiting-from-fits, reached-fits}
 use Rattle.hop_cells.specs.Cells.{Room, get2}
 use Rattle.hop_cells.proofs.Read.{distance-read, downstream-read, length-read}
-use Rattle.hop_runs.specs.Runs as runs
+use Rattle.hop_counts.specs.Counts as counts
 use Rattle.hop_bridge.proofs.Top.{queued-read, waitingFor-read, waitingFrom-read, reached-read}
 use Rattle.hop_judge.specs.declared.Judged.{Judged}
 use Rattle.hop_judge.specs.declared.Judged.the-variants.{Go}
@@ -31,9 +31,9 @@ module _ (s : List ℕ) {j : Judged} {n : ℕ} (g : j ≡ Go n) {x : ℕ} where
   read-asked : (k : Call) {y : ℕ} → j ≡ verdict (judge (refusals k s [])) (nodes s) → asked (Value y) s [] ≡ done k s [] → (n ≡ nodes s → x ≡ y) → asked (Value x) s [] ≡ outcome k s []
   read-asked k e answer h = ap (λ v. asked (Value v) s []) (h (gone _ _ e g .1)) ∙ answer ∙ call-done k s [] (nodes s) e g
 
-  pub total-asked : j ≡ verdict (judge (refusals totalQueued s [])) (nodes s) → x ≡ runs.queued n s → asked (Value x) s [] ≡ outcome totalQueued s []
+  pub total-asked : j ≡ verdict (judge (refusals totalQueued s [])) (nodes s) → x ≡ counts.queued n s → asked (Value x) s [] ≡ outcome totalQueued s []
   unfolding refusals done
-  total-asked e h = read-asked totalQueued e refl (λ claim. h ∙ ap (λ m. runs.queued m s) claim ∙ queued-read s (fine-known s [] e g))
+  total-asked e h = read-asked totalQueued e refl (λ claim. h ∙ ap (λ m. counts.queued m s) claim ∙ queued-read s (fine-known s [] e g))
 
   module _ (a b : ℕ) where
     pub distance-asked : j ≡ verdict (judge (refusals (distance a b) s [])) (nodes s) → x ≡ get2 n Distances a b s → asked (Value x) s [] ≡ outcome (distance a b) s []
@@ -52,10 +52,10 @@ module _ (s : List ℕ) {j : Judged} {n : ℕ} (g : j ≡ Go n) {x : ℕ} where
 
 -- The five numbers of a status record as the code counts them.
 pub record Counted (s : List ℕ) (n u for from reached total : ℕ) : Type 0 where
-  pub for-it : for ≡ runs.waitingFor n u s
-  pub from-it : from ≡ runs.waitingFrom n u s
-  pub reaches : reached ≡ runs.reached n u s
-  pub in-all : total ≡ runs.queued n s
+  pub for-it : for ≡ counts.waitingFor n u s
+  pub from-it : from ≡ counts.waitingFrom n u s
+  pub reaches : reached ≡ counts.reached n u s
+  pub in-all : total ≡ counts.queued n s
 
 module _ (s out : List ℕ) (u : ℕ) {j : Judged} (e : j ≡ verdict (judge (refusals (status u) s out)) (nodes s)) {n : ℕ} (g : j ≡ Go n) where
   claim : n ≡ nodes s
@@ -80,16 +80,16 @@ module _ (s out : List ℕ) (u : ℕ) {j : Judged} (e : j ≡ verdict (judge (re
 
   module _ {for from reached total : ℕ} (h : Counted s n u for from reached total) where
     is-for : for ≡ rule.waitingFor (read s) u
-    is-for = h .for-it ∙ ap (λ m. runs.waitingFor m u s) claim ∙ waitingFor-read s fine u (node .0)
+    is-for = h .for-it ∙ ap (λ m. counts.waitingFor m u s) claim ∙ waitingFor-read s fine u (node .0)
 
     is-from : from ≡ rule.waitingFrom (read s) u
-    is-from = h .from-it ∙ ap (λ m. runs.waitingFrom m u s) claim ∙ waitingFrom-read s fine u (node .0)
+    is-from = h .from-it ∙ ap (λ m. counts.waitingFrom m u s) claim ∙ waitingFrom-read s fine u (node .0)
 
     is-reached : reached ≡ rule.reached (read s) u
-    is-reached = h .reaches ∙ ap (λ m. runs.reached m u s) claim ∙ reached-read s fine u (node .0)
+    is-reached = h .reaches ∙ ap (λ m. counts.reached m u s) claim ∙ reached-read s fine u (node .0)
 
     is-total : total ≡ rule.total (read s)
-    is-total = h .in-all ∙ ap (λ m. runs.queued m s) claim ∙ queued-read s fine
+    is-total = h .in-all ∙ ap (λ m. counts.queued m s) claim ∙ queued-read s fine
 
     -- Soundness makes them fit.
     pub status-ready : (14 ≤ length out) × (u < 65536) × (for < 65536) × (from < 65536) × (reached < 65536) × (total < 65536)

@@ -63,7 +63,7 @@ pub fn total_queued(s: &[u8]) -> Answer
 {
     match judge_state(s) {
         Judged::Refused(c) => Answer::Refused(c),
-        Judged::Go(n) => value(hop_runs::queued(s, n)),
+        Judged::Go(n) => value(hop_counts::queued(s, n)),
     }
 }
 
@@ -74,10 +74,10 @@ pub fn status(s: &[u8], u: usize, out: &mut [u8]) -> Answer
     match judge_status(s, u, out) {
         Judged::Refused(c) => Answer::Refused(c),
         Judged::Go(n) => {
-            let waiting_for = hop_runs::waiting_for(s, n, u);
-            let waiting_from = hop_runs::waiting_from(s, n, u);
-            let reached = hop_runs::reached(s, n, u);
-            let total = hop_runs::queued(s, n);
+            let waiting_for = hop_counts::waiting_for(s, n, u);
+            let waiting_from = hop_counts::waiting_from(s, n, u);
+            let reached = hop_counts::reached(s, n, u);
+            let total = hop_counts::queued(s, n);
             hop_records::write_status(out, u, waiting_for, waiting_from, reached, total);
             Answer::Value(14)
         }

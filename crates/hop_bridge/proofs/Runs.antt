@@ -12,7 +12,8 @@ use Rattle.hop_rule.specs.Rule as rule
 use Rattle.hop_laws.proofs.Words.{loop-both, sum-same, first-same}
 use Rattle.hop_cells.specs.Cells.{get2}
 use Rattle.hop_steps.specs.Steps.{drain}
-use Rattle.hop_runs.specs.Runs.{passFrom, pass, waitingFor, waitingFrom, queued, reached, passes, made, delivered}
+use Rattle.hop_counts.specs.Counts.{waitingFor, waitingFrom, queued, reached}
+use Rattle.hop_runs.specs.Runs.{passFrom, pass, passes, made, delivered}
 use Rattle.hop_bridge.specs.Carries.{Carries, CarriesSound}
 use Rattle.hop_bridge.proofs.Deliver.{drain-sound}
 

@@ -9,7 +9,8 @@ use Rattle.hop_rule.specs.Stored.{size, nodes, read}
 use Rattle.hop_rule.specs.Calls.{restored}
 use Rattle.hop_laws.specs.Fine.{Fine}
 use Rattle.hop_steps.specs.Steps.{deliver, linkUp, linkDown, make}
-use Rattle.hop_runs.specs.Runs.{pass, waitingFor, waitingFrom, queued, reached, passes, made, delivered, ran, run}
+use Rattle.hop_counts.specs.Counts.{waitingFor, waitingFrom, queued, reached}
+use Rattle.hop_runs.specs.Runs.{pass, passes, made, delivered, ran, run}
 use Rattle.hop_bridge.proofs.Deliver.{deliver-sound}
 use Rattle.hop_bridge.proofs.Links.{linkUp-carries, linkDown-carries}
 use Rattle.hop_bridge.proofs.Runs.{waitingFor-is, waitingFrom-is, queued-is, reached-is, pass-sound, passes-sound, made-is, delivered-is}

@@ -6,6 +6,7 @@ use Rattle.hop_rule.specs.Stored.{nodes}
 use Rattle.hop_rule.specs.Calls.{Call, make, up, down, deliver, pass, run, judge, refusals, onState, done, outcome}
 use Rattle.hop_laws.specs.Fine.{Fine}
 use Rattle.hop_steps.specs.Steps as step
+use Rattle.hop_counts.specs.Counts as counts
 use Rattle.hop_runs.specs.declared.Ran.{Ran}
 use Rattle.hop_runs.specs.Runs as runs
 use Rattle.hop_bridge.proofs.Top.{make-stored, deliver-stored, linkUp-stored, linkDown-stored, pass-stored, queued-read, run-stored, ran-read}
@@ -56,10 +57,10 @@ module _ (s : List ℕ) {j : Judged} (e : j ≡ verdict (judge (onState s [])) (
   fine : Fine s
   fine = fine-known s [] e g
 
-  pub pass-done : {d : ℕ} {t : List ℕ} → d ≡ runs.queued n s → t ≡ runs.pass n s → passed (Delivered d) t ≡ outcome pass s []
+  pub pass-done : {d : ℕ} {t : List ℕ} → d ≡ counts.queued n s → t ≡ runs.pass n s → passed (Delivered d) t ≡ outcome pass s []
   unfolding refusals done
   pass-done q h =
-      let waited = q ∙ ap (λ m. runs.queued m s) claim ∙ queued-read s fine in
+      let waited = q ∙ ap (λ m. counts.queued m s) claim ∙ queued-read s fine in
       let left = h ∙ ap (λ m. runs.pass m s) claim ∙ pass-stored s fine in
       rw (waited, left) (call-done pass s [] _ e g)
 

@@ -92,7 +92,7 @@ pub fn pass(s: &mut [u8]) -> PassAnswer
     match judge_state(s) {
         Judged::Refused(c) => PassAnswer::Refused(c),
         Judged::Go(n) => {
-            let d = hop_runs::queued(s, n);
+            let d = hop_counts::queued(s, n);
             hop_runs::pass(s, n);
             PassAnswer::Delivered(d as u32)
         }

@@ -11,8 +11,9 @@ use borrow.Author.Tests.{eq-eqb, ne-eqb}
 use borrow.Author.Count.{below-none, below-more}
 use Rattle.hop_laws.proofs.Words.{loop-none, loop-turn, sum-none, first-is, first-none}
 use Rattle.hop_cells.proofs.Loops.{sum-turn}
+use Rattle.hop_counts.specs.Counts.{queued}
 use Rattle.hop_runs.specs.declared.Ran.{Ran}
-use Rattle.hop_runs.specs.Runs.{queued, passes, made as made-of, delivered, ran, run}
+use Rattle.hop_runs.specs.Runs.{passes, made as made-of, delivered, ran, run}
 use Rattle.hop_runs.proofs.run.Statement.{statement}
 use Rattle.hop_runs.proofs.run.Tie as tie
 

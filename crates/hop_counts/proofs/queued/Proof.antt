@@ -6,9 +6,9 @@ use borrow.Author.Needs.{needs}
 use Rattle.hop_rule.specs.Words.{sum as sum-of}
 use Rattle.hop_laws.proofs.Words.{sum-none}
 use Rattle.hop_cells.proofs.Loops.{sum-turn, sum-end}
-use Rattle.hop_runs.specs.Runs.{waitingFrom, queued}
-use Rattle.hop_runs.proofs.queued.Statement.{statement}
-use Rattle.hop_runs.proofs.queued.Tie as tie
+use Rattle.hop_counts.specs.Counts.{waitingFrom, queued}
+use Rattle.hop_counts.proofs.queued.Statement.{statement}
+use Rattle.hop_counts.proofs.queued.Tie as tie
 
 abbrev Inv-loop : tie.InvT-loop
 Inv-loop s n sum₀ w₀ sum w = (w ≤ n) × (sum ≤ 10200 * w) × (sum ≡ sum-of w (λ (x : ℕ). waitingFrom n x s))

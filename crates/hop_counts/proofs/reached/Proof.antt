@@ -6,9 +6,9 @@ use borrow.Author.Needs.{needs}
 use Rattle.hop_rule.specs.Words.{sum as sum-of}
 use Rattle.hop_laws.proofs.Words.{sum-none}
 use Rattle.hop_cells.proofs.Loops.{sum-turn, sum-end}
-use Rattle.hop_runs.specs.Runs.{reaches, reached}
-use Rattle.hop_runs.proofs.reached.Statement.{statement}
-use Rattle.hop_runs.proofs.reached.Tie as tie
+use Rattle.hop_counts.specs.Counts.{reaches, reached}
+use Rattle.hop_counts.proofs.reached.Statement.{statement}
+use Rattle.hop_counts.proofs.reached.Tie as tie
 
 abbrev Inv-loop : tie.InvT-loop
 Inv-loop s n u sum₀ v₀ sum v = (v ≤ n) × (sum ≤ v) × (sum ≡ sum-of v (reaches n u s))

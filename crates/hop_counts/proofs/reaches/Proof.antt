@@ -2,8 +2,8 @@
 use native.Mathlib.Omega.{arith}
 use borrow.Author.Tests.{eq-eqb, ne-eqb, lt-ltb, le-ltb}
 use borrow.Author.Needs.{needs}
-use Rattle.hop_runs.proofs.reaches.Statement.{statement}
-use Rattle.hop_runs.proofs.reaches.Tie as tie
+use Rattle.hop_counts.proofs.reaches.Statement.{statement}
+use Rattle.hop_counts.proofs.reaches.Tie as tie
 
 returns : tie.Need-returns
 returns c = (simp (eq-eqb _ _ (c .if1 .taken)), omega arith)
