@@ -11,8 +11,8 @@ use Rattle.hop_laws.specs.Holds.{deepOf, blank}
 use Rattle.hop_laws.proofs.Words.{loop-both, length-listed, getD-listed}
 use Rattle.hop_laws.proofs.Queues.{listed-differ, listed-each}
 use Rattle.hop_laws.proofs.Read.{destinationAt-getD, valueAt-getD}
-use Rattle.hop_cells.specs.Cells.{put2}
-use Rattle.hop_queues.specs.Queues.{fill, offerAll}
+use Rattle.hop_cells.specs.Cells.{put2, fill}
+use Rattle.hop_queues.specs.Queues.{offerAll}
 use Rattle.hop_steps.specs.Steps.{recompute, linkUp, cutEnd, recomputeAll, linkDown}
 use Rattle.hop_bridge.specs.Carries.{Carries}
 use Rattle.hop_bridge.proofs.Filled.{row-set}

@@ -7,9 +7,9 @@ use native.Mathlib.Omega.{arith}
 use lib.Dec.{eqb}
 use Rattle.hop_rule.specs.declared.Table.the-variants.{Distances, Lengths, Destinations, Values}
 use Rattle.hop_rule.specs.Words.{loop}
-use Rattle.hop_cells.specs.Cells.{put2, put3}
+use Rattle.hop_cells.specs.Cells.{put2, put3, fill}
 use Rattle.hop_cells.proofs.Places.{rank}
-use Rattle.hop_queues.specs.Queues.{fill, join, moveUp, takeFirst, offer, offerAll, empty}
+use Rattle.hop_queues.specs.Queues.{join, moveUp, takeFirst, offer, offerAll, empty}
 use Rattle.hop_bridge.specs.Carries.{Flats, Deeps, Filled}
 use Rattle.hop_bridge.proofs.Choice.{cond-twice}
 use Rattle.hop_bridge.proofs.Filled.{same, cellSet, rowSet, placeSet, filled-as, filled-put2, filled-put3, cell-set, row-set, row-as, row-swap}

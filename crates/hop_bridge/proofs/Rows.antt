@@ -13,8 +13,8 @@ use Rattle.hop_rule.specs.declared.Table.{Table}
 use Rattle.hop_rule.specs.Words.{loop}
 use Rattle.hop_laws.specs.Holds.{Deep}
 use Rattle.hop_laws.proofs.Tests.{tells-eq, tells-lt, tells-or, tells-as, tells-same, choose-so, choose-else}
-use Rattle.hop_cells.specs.Cells.{get3, put3}
-use Rattle.hop_queues.specs.Queues.{fill, shift, clear, moveUp}
+use Rattle.hop_cells.specs.Cells.{get3, put3, fill}
+use Rattle.hop_queues.specs.Queues.{shift, clear, moveUp}
 use Rattle.hop_bridge.specs.Carries.{Flats, Deeps, Filled}
 use Rattle.hop_bridge.proofs.Choice.{cond-either}
 use Rattle.hop_bridge.proofs.Filled.{rowSet, placeSet, filled-put3, row-as, row-get}

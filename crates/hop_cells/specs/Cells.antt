@@ -1,9 +1,10 @@
--- One byte of a stored state, read and written: what the code's accessors do. n is handed in and not read again. Used by the code's own definitions; a buyer needs none of it.
+-- One byte of a stored state, read and written, and a row of them written: what the code's accessors do. n is handed in and not read again. Used by the code's own definitions; a buyer needs none of it.
 use mathlib.Core.List.{List}
 use Prim.Native.Nat.{ℕ, _+_, _*_, _≤_}
 use lib.ListN.{length, getD, set}
 use Rattle.hop_rule.specs.declared.Table.{Table}
 use Rattle.hop_rule.specs.declared.Table.the-variants.{Links, Distances, Downstreams, Views, Lengths, Destinations, Values}
+use Rattle.hop_rule.specs.Words.{loop}
 use Rattle.hop_rule.specs.Stored.{size, start}
 
 -- The buffer has room for a state of n nodes.
@@ -40,3 +41,7 @@ put2 n t a b x s = put n t (a * n + b) x s
 
 abbrev pub put3 : ℕ → Table → ℕ → ℕ → ℕ → ℕ → List ℕ → List ℕ
 put3 n t a b c x s = put n t ((a * n + b) * n + c) x s
+
+-- Every place of row a, b of a block of n³ becomes x.
+unfoldable pub fill : ℕ → Table → ℕ → ℕ → ℕ → List ℕ → List ℕ
+fill n t a b x s = loop n (λ c. put3 n t a b c x) s

@@ -1,8 +1,8 @@
-// One byte of a stored state by name: where it stands, reading it, writing it.
+// One byte of a stored state by name: where it stands, reading it, writing it; and a row of them written. `wide` and `least` serve all the code.
 
 use hop_rule::Table;
 ghost use mathlib.Core.Path.{_≡_};
-ghost use Prim.Native.Nat.{_+_, _*_, _<_, _≤_};
+ghost use Prim.Native.Nat.{_+_, _*_, _<_, _≤_, min};
 ghost use lib.ListN.{length};
 ghost use Rattle.hop_rule.specs.Stored as stored;
 ghost use Rattle.hop_cells.specs.Cells as cell;
@@ -12,6 +12,13 @@ pub fn wide(x: u8) -> usize
     ensures { λ r. ⌜ (r ≡ x) × (r < 256) ⌝ }
 {
     x as usize
+}
+
+// The smaller of two numbers.
+pub fn least(a: usize, b: usize) -> usize
+    ensures { λ r. ⌜ r ≡ min a b ⌝ }
+{
+    if a < b { a } else { b }
 }
 
 // The node count that the bytes claim: their first.
@@ -123,4 +130,14 @@ pub fn put3(s: &mut [u8], n: usize, t: Table, a: usize, b: usize, c: usize, x: u
     ensures { λ r. ⌜ now (s .exit) ≡ cell.put3 n t a b c x (now (s .entry)) ⌝ }
 {
     put(s, n, t, triple(n, a, b, c), x);
+}
+
+// Every place of a row of a block of n³ becomes x.
+pub fn fill(s: &mut [u8], n: usize, t: Table, a: usize, b: usize, x: u8)
+    requires { ⌜ Room n (now s) × (a < n) × (b < n) × (cells n t ≡ n * n * n) ⌝ }
+    ensures { λ r. ⌜ now (s .exit) ≡ cell.fill n t a b x (now (s .entry)) ⌝ }
+{
+    for c in 0..n {
+        put3(s, n, t, a, b, c, x);
+    }
 }

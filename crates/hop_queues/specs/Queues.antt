@@ -7,11 +7,7 @@ use lib.Dec.{eqb, ltb}
 use Rattle.hop_rule.specs.declared.Table.{Table}
 use Rattle.hop_rule.specs.declared.Table.the-variants.{Distances, Lengths, Destinations, Values}
 use Rattle.hop_rule.specs.Words.{if_then_else_, loop, first}
-use Rattle.hop_cells.specs.Cells.{get2, get3, put2, put3}
-
--- Every place of row a, b of a block of n³ becomes x.
-unfoldable pub fill : ℕ → Table → ℕ → ℕ → ℕ → List ℕ → List ℕ
-fill n t a b x s = loop n (λ c. put3 n t a b c x) s
+use Rattle.hop_cells.specs.Cells.{get2, get3, put2, put3, fill}
 
 -- The entries that the queue from w to u holds: a length past n counts as n.
 abbrev pub held : ℕ → ℕ → ℕ → List ℕ → ℕ

@@ -1,35 +1,20 @@
 // One queue of a stored state: sending into it, taking its head, filling and emptying it.
 
+use hop_cells::fill;
 use hop_cells::get2;
 use hop_cells::get3;
+use hop_cells::least;
 use hop_cells::put2;
 use hop_cells::put3;
 use hop_rows::none_is;
 use hop_rows::row3;
 use hop_rule::Table;
 ghost use mathlib.Core.Path.{_≡_};
-ghost use Prim.Native.Nat.{_+_, _*_, _<_, _≤_, min};
+ghost use Prim.Native.Nat.{_+_, _*_, _<_, _≤_};
 ghost use Rattle.hop_cells.specs.Cells.{Room, cells};
 ghost use Rattle.hop_rule.specs.declared.Table.the-variants.{Destinations};
 ghost use Rattle.hop_rows.specs.Rows.{row, noneIs};
 ghost use Rattle.hop_queues.specs.Queues as queue;
-
-// Every place of a row of a block of n³ becomes x.
-pub fn fill(s: &mut [u8], n: usize, t: Table, a: usize, b: usize, x: u8)
-    requires { ⌜ Room n (now s) × (a < n) × (b < n) × (cells n t ≡ n * n * n) ⌝ }
-    ensures { λ r. ⌜ now (s .exit) ≡ queue.fill n t a b x (now (s .entry)) ⌝ }
-{
-    for c in 0..n {
-        put3(s, n, t, a, b, c, x);
-    }
-}
-
-// The smaller of two numbers.
-pub fn least(a: usize, b: usize) -> usize
-    ensures { λ r. ⌜ r ≡ min a b ⌝ }
-{
-    if a < b { a } else { b }
-}
 
 // The entries that the queue from w to u holds.
 pub fn held(s: &[u8], n: usize, w: usize, u: usize) -> usize

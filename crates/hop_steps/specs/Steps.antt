@@ -8,8 +8,8 @@ use lib.ListN.{set}
 use Rattle.hop_rule.specs.declared.Table.{Table}
 use Rattle.hop_rule.specs.declared.Table.the-variants.{Links, Distances, Downstreams, Views, Lengths, Destinations, Values}
 use Rattle.hop_rule.specs.Words.{if_then_else_, loop}
-use Rattle.hop_cells.specs.Cells.{cells, put, get2, get3, put2, put3}
-use Rattle.hop_queues.specs.Queues.{fill, held, send, takeFirst, offerAll, empty}
+use Rattle.hop_cells.specs.Cells.{cells, put, get2, get3, put2, put3, fill}
+use Rattle.hop_queues.specs.Queues.{held, send, takeFirst, offerAll, empty}
 use Rattle.hop_steps.specs.declared.Best.{Best}
 
 -- The link is up at u's end.

@@ -1,8 +1,10 @@
 // The events on the bytes of a stored state: recompute, deliver, link up, link down; and a fresh state.
 
 use hop_cells::cube;
+use hop_cells::fill;
 use hop_cells::get2;
 use hop_cells::get3;
+use hop_cells::least;
 use hop_cells::pair;
 use hop_cells::put;
 use hop_cells::put2;
@@ -11,9 +13,7 @@ use hop_cells::start;
 use hop_cells::triple;
 use hop_cells::wide;
 use hop_queues::empty;
-use hop_queues::fill;
 use hop_queues::held;
-use hop_queues::least;
 use hop_queues::offer_all;
 use hop_queues::send;
 use hop_queues::take_first;

@@ -6,11 +6,10 @@ use lib.ListN.{length}
 use borrow.Author.Needs.{needs}
 use Rattle.hop_rule.specs.Words.{loop}
 use Rattle.hop_laws.proofs.Words.{loop-none, loop-turn}
-use Rattle.hop_cells.specs.Cells.{put3}
+use Rattle.hop_cells.specs.Cells.{put3, fill}
 use Rattle.hop_cells.proofs.Loops.{loop-end}
-use Rattle.hop_queues.specs.Queues.{fill}
-use Rattle.hop_queues.proofs.fill.Statement.{statement}
-use Rattle.hop_queues.proofs.fill.Tie as tie
+use Rattle.hop_cells.proofs.fill.Statement.{statement}
+use Rattle.hop_cells.proofs.fill.Tie as tie
 
 abbrev Inv-loop : tie.InvT-loop
 Inv-loop s₀ n t a b x c₀ s c = (c ≤ n) × (length s ≡ length s₀) × (s ≡ loop c (λ (p : ℕ). put3 n t a b p x) s₀)
