@@ -11,7 +11,8 @@ use lib.Dec.{eqb}
 use Rattle.hop_rule.specs.Words.{listed, first}
 use Rattle.hop_rule.specs.State.{State, Entry}
 use Rattle.hop_rule.specs.Rule.{up, sends, least, distanceOf, gives, downstreamOf, send, recompute, hear, deliver, linkUp, cut}
-use Rattle.hop_rule.specs.Sound.{Sends, Leads, Sound}
+use Rattle.hop_rule.specs.Sound.{Sends, Sound}
+pub use Rattle.hop_laws.specs.Current.{Current}
 use Rattle.hop_laws.proofs.Tests.{Tells, decides, tells-eq, tells-pair, tells-and, tells-or, tells-not, tells-same, tells-as, tells-not-so, choose-so, choose-else}
 use Rattle.hop_laws.proofs.Sound.{tells-sends}
 use Rattle.hop_laws.proofs.Words.{first-passes, first-before, first-same}
@@ -191,11 +192,6 @@ pub downstreamOf-alike : {s t : State} {u v : ℕ} → Alike s t u v → downstr
 downstreamOf-alike {s} {t} {u} {v} a = ap (downstreamOf t u v) (distanceOf-alike a) ∙ alike-at (distanceOf s u v) a (distanceOf-most s u v)
 
 -- ---- both
-
--- What u holds for v is what recompute gives.
-pub record Current (s : State) (u v : ℕ) : Type 0 where
-  pub distance : s .distance u v ≡ distanceOf s u v
-  pub downstream : Leads s u v
 
 pub sound-current : {s : State} → Sound s → (u v : ℕ) → u < s .n → v < s .n → Current s u v
 sound-current o u v lu lv = record { distance = o .distances u v lu lv; downstream = o .downstreams u v lu lv }

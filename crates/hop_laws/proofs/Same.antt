@@ -9,7 +9,8 @@ use Rattle.hop_rule.specs.State.{State}
 use Rattle.hop_rule.specs.Stored.{block, stored}
 use Rattle.hop_rule.specs.Sound.{Sends, Sound}
 use Rattle.hop_laws.specs.Same.{Same}
-use Rattle.hop_laws.proofs.Rule.{Alike, same-alike, Current, current-alike, sound-current}
+use Rattle.hop_laws.specs.Current.{Current}
+use Rattle.hop_laws.proofs.Rule.{Alike, same-alike, current-alike, sound-current}
 use Rattle.hop_laws.proofs.Queues.{each-as, each-both}
 use Rattle.hop_laws.proofs.Blocks.{grid-same, cube-same}
 

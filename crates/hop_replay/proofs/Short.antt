@@ -19,7 +19,8 @@ use Rattle.hop_rule.specs.Stored.{readAs, read}
 use Rattle.hop_rule.specs.Sound.{Sound}
 use Rattle.hop_rule.specs.Records.{wordAt, known, lengthOf, readEvent}
 use Rattle.hop_rule.specs.Calls.{Refusal, make, check, totalQueued, judge, refusals, answerAt, outcome}
-use Rattle.hop_laws.proofs.Rule.{distanceOf-most, Current, sound-current, current-own, current-none, current-gives}
+use Rattle.hop_laws.specs.Current.{Current}
+use Rattle.hop_laws.proofs.Rule.{distanceOf-most, sound-current, current-own, current-none, current-gives}
 use Rattle.hop_laws.proofs.Ceiling.{total-fits}
 use Rattle.hop_laws.proofs.Calls.{outcome-number, answer-done, state-fine}
 use Rattle.hop_laws.proofs.Accepted.{accepted-fine, fine-total}

@@ -1,4 +1,4 @@
--- A delivery as a relation with named parts: what left, what was learnt, what was recomputed, what was sent, what stayed. All that follows speaks of runs of it; the rule's `deliver` is one such. Assumes nothing.
+-- The rule's `deliver` is a delivery as `Delivered` has it; and what follows from the parts: what waits in front stays in front, no other queue gets shorter, and it stays if no distance changed. Assumes nothing.
 use mathlib.Core.Path.{_≡_, sym, subst, _∙_}
 use mathlib.Core.Logic.{_⊎_, inl, inr, _≢_}
 use mathlib.Core.List.{List, _∷_}
@@ -13,32 +13,9 @@ use Rattle.hop_rule.specs.Sound.{Sends, Waits, Each}
 use Rattle.hop_laws.proofs.Tests.{tells-eq, tells-and, decides}
 use Rattle.hop_laws.proofs.Sound.{tells-sends}
 use Rattle.hop_laws.proofs.Queues.{send-length, send-front}
+use Rattle.hop_rest.specs.Delivered.{Over, Delivered}
 use Rattle.hop_rest.proofs.Frame.{deliver-n, deliver-link, deliver-view-other, deliver-distance-other, deliver-queue-other, deliver-view-learnt, deliver-queue-left, deliver-queue-sent, deliver-queue-quiet}
 use Rattle.hop_rest.proofs.Kept.{waiting-sends, sends-linked, waiting-below, deliver-keeps-sound}
-use Rattle.hop_rest.proofs.Right.{Over}
-
--- A delivery from w to u takes s to t, over the links of g.
-pub record Delivered (g s : State) (w u : ℕ) (t : State) : Type 0 where
-  pub sender : w < g .n
-  pub receiver : u < g .n
-  pub linked : g .link u w ≡ 1
-  -- what left
-  pub head : Entry
-  pub rest : List Entry
-  pub waited : s .queue w u ≡ head ∷ rest
-  pub left : t .queue w u ≡ rest
-  -- what was learnt
-  pub learnt : t .view u w (head .destination) ≡ s .distance w (head .destination)
-  -- what was recomputed
-  pub recomputed : Over g t
-  -- what was sent
-  pub sent : t .distance u (head .destination) ≢ s .distance u (head .destination) → (x : ℕ) → x < g .n → Sends g u x
-      → t .queue u x ≡ send (record { destination = head .destination; value = t .distance u (head .destination) }) (s .queue u x)
-  pub quiet : t .distance u (head .destination) ≡ s .distance u (head .destination) → (x : ℕ) → x < g .n → Sends g u x → t .queue u x ≡ s .queue u x
-  -- what stayed
-  pub views : (a b c : ℕ) → a < g .n → b < g .n → c < g .n → (a ≡ u → b ≡ w → c ≢ head .destination) → t .view a b c ≡ s .view a b c
-  pub distances : (a c : ℕ) → a < g .n → c < g .n → (a ≡ u → c ≢ head .destination) → t .distance a c ≡ s .distance a c
-  pub queues : (a b : ℕ) → a < g .n → b < g .n → (a ≡ w → b ≢ u) → (a ≡ u → Sends g u b → ⊥) → t .queue a b ≡ s .queue a b
 
 -- ---- the rule's delivery from a queue that is not empty
 

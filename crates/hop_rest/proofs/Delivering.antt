@@ -24,10 +24,11 @@ use Rattle.hop_laws.proofs.Calls.{judge-next, outcome-done, outcome-refused, ou
 use Rattle.hop_laws.proofs.Accepted.{accepted-fine, ends-known, fine-ends, fine-accepted, fine-total, fine-length, fine-length-nodes}
 use Rattle.hop_rest.specs.Orders.{Queue, Nodes, deliveries, count, Pass, Passes, after}
 use Rattle.hop_rest.specs.OnBytes.{asked, SettledBytes, delivery, delivering, NoneRefused, PassBytes, PassesBytes, DeliveriesSettle}
+use Rattle.hop_rest.specs.Delivered.{Over, Delivered, Within}
 use Rattle.hop_rest.proofs.Frame.{deliver-n}
-use Rattle.hop_rest.proofs.Right.{Over, over-self}
-use Rattle.hop_rest.proofs.Delivered.{Delivered, deliver-over}
-use Rattle.hop_rest.proofs.Runs.{count-at, count-other, Within, within-first, deliveries-over}
+use Rattle.hop_rest.proofs.Right.{over-self}
+use Rattle.hop_rest.proofs.Delivered.{deliver-over}
+use Rattle.hop_rest.proofs.Runs.{count-at, count-other, within-first, deliveries-over}
 use Rattle.hop_rest.proofs.Ascending.{deliveries-both}
 use Rattle.hop_rest.proofs.Same.{deliver-same}
 use Rattle.hop_rest.proofs.Settling.{passes-settle}

@@ -4,11 +4,13 @@ use mathlib.Core.Logic.{_≢_}
 use Prim.Native.Nat.{ℕ, suc, _<_}
 use native.Mathlib.Omega.{arith}
 use Rattle.hop_rule.specs.State.{State}
-use Rattle.hop_laws.proofs.Rule.{Gives, Current, sound-current, current-own, current-none, current-gives}
+use Rattle.hop_laws.specs.Current.{Current}
+use Rattle.hop_laws.proofs.Rule.{Gives, sound-current, current-own, current-none, current-gives}
 use Rattle.hop_rest.specs.Walks.{Walk, here, HopCount, joined, apart, Nearer}
 use Rattle.hop_rest.specs.Rest.{AtRest, Settled}
+use Rattle.hop_rest.specs.Delivered.{Over}
 use Rattle.hop_rest.proofs.Walks.{hop-count-same}
-use Rattle.hop_rest.proofs.Right.{Over, distance-own}
+use Rattle.hop_rest.proofs.Right.{distance-own}
 use Rattle.hop_rest.proofs.Rest.{rest-view, rest-hop-count}
 
 module _ (g s : State) (o : Over g s) (rest : AtRest s) where

@@ -13,8 +13,9 @@ use Rattle.hop_laws.proofs.Tests.{tells-eq, tells-and, decides}
 use Rattle.hop_laws.proofs.Words.{loop-keeps}
 use Rattle.hop_laws.proofs.Rule.{Alike, same-alike, distanceOf-most, sound-current, current-alike, hear-view-at, hear-view-other, hear-queue-at, hear-queue-other, deliver-head, deliver-none, Between, tells-between, between-back, up-link, up-queue, cut-link, cut-view, cut-queue}
 use Rattle.hop_laws.proofs.Sound.{tells-sends}
+use Rattle.hop_rest.specs.Mending.{Brings, Steady, SoundBut}
 use Rattle.hop_rest.proofs.Frame.{deliver-n}
-use Rattle.hop_rest.proofs.Mended.{Brings, Steady, SoundBut, sound-steady, but-sound, brings-same, brings-hear, brings-all, recompute-mends, recompute-all-mends, recompute-all-n}
+use Rattle.hop_rest.proofs.Mended.{sound-steady, but-sound, brings-same, brings-hear, brings-all, recompute-mends, recompute-all-mends, recompute-all-n}
 
 -- ---- deliver
 

@@ -1,7 +1,7 @@
--- 'Sound but for some stale pairs': the tables may be stale for some pairs of node and destination, and all else is sound. Recompute mends one pair. Assumes nothing.
-use mathlib.Core.Path.{_≡_, refl, sym, ap, subst, _∙_}
+-- Recompute mends one stale pair of node and destination, and all else stays sound; where none is stale the state is sound. Assumes nothing.
+use mathlib.Core.Path.{_≡_, refl, sym, subst, _∙_}
 use mathlib.Core.Logic.{inl, inr, _≢_}
-use mathlib.Core.List.{List, [], _∷_}
+use mathlib.Core.List.{List, _∷_}
 use Prim.Native.Nat.{ℕ, zero, suc, _≤_, _<_}
 use native.Mathlib.Nat.{le-refl}
 use native.Mathlib.Decide.{ℕ-discrete}
@@ -10,19 +10,15 @@ use lib.ListN.{length}
 use Rattle.hop_rule.specs.Words.{loop, listed}
 use Rattle.hop_rule.specs.State.{State, Entry}
 use Rattle.hop_rule.specs.Rule.{distanceOf, send, recompute, recomputeAll}
-use Rattle.hop_rule.specs.Sound.{Linked, Sends, Waits, Differ, Each, Sound}
+use Rattle.hop_rule.specs.Sound.{Sends, Waits, Each, Sound}
+use Rattle.hop_laws.specs.Current.{Current}
 use Rattle.hop_laws.proofs.Tests.{tells-eq, tells-and, decides}
-use Rattle.hop_laws.proofs.Rule.{same-alike, Current, current-alike, recompute-distance-at, recompute-distance-other, recompute-downstream-other, recompute-current, recompute-queue-sent, recompute-queue-other}
+use Rattle.hop_laws.proofs.Rule.{same-alike, current-alike, recompute-distance-at, recompute-distance-other, recompute-downstream-other, recompute-current, recompute-queue-sent, recompute-queue-other}
 use Rattle.hop_laws.proofs.Sound.{tells-sends}
 use Rattle.hop_laws.proofs.Queues.{each-as, each-both, send-sends, send-keeps, send-differ, send-each, listed-each, listed-waits, listed-differ, differ-most}
+use Rattle.hop_rest.specs.Mending.{Brings, Steady, SoundBut}
 
 -- ---- a queue and its two ends
-
--- What a queue in use is sound by: the sender's distances, the receiver's views of what they were, and the entries between them.
-pub record Brings (n : ℕ) (distance view : ℕ → ℕ) (q : List Entry) : Type 0 where
-  pub differ : Differ q
-  pub entries : Each (λ e. (e .destination < n) × (e .value ≡ distance (e .destination))) q
-  pub heard : (v : ℕ) → v < n → (Waits v q → ⊥) → view v ≡ distance v
 
 -- Nothing else is read.
 pub brings-same : (n : ℕ) (d d′ m m′ : ℕ → ℕ) (q : List Entry) → ((v : ℕ) → v < n → d′ v ≡ d v) → ((v : ℕ) → v < n → m′ v ≡ m v) → Brings n d m q → Brings n d′ m′ q
@@ -64,21 +60,7 @@ brings-all n d m = record {
     f : ℕ → Entry
     f v = record { destination = v; value = d v }
 
--- ---- all of sound but the tables
-
-pub record Steady (s : State) : Type 0 where
-  pub bits : (u w : ℕ) → u < s .n → w < s .n → s .link u w ≤ 1
-  pub symmetric : (u w : ℕ) → u < s .n → w < s .n → s .link u w ≡ s .link w u
-  pub diagonal : (u : ℕ) → u < s .n → s .link u u ≡ 0
-  pub views : (u w v : ℕ) → u < s .n → w < s .n → v < s .n → s .view u w v ≤ s .n
-  pub down-views : (u w v : ℕ) → u < s .n → w < s .n → v < s .n → (Linked s u w → ⊥) → s .view u w v ≡ s .n
-  pub down-queues : (u w : ℕ) → u < s .n → w < s .n → (Sends s w u → ⊥) → s .queue w u ≡ []
-  pub brings : (u w : ℕ) → u < s .n → w < s .n → Sends s w u → Brings (s .n) (s .distance w) (s .view u w) (s .queue w u)
-
--- Sound, but that the pairs of P may be stale.
-pub record SoundBut (P : ℕ → ℕ → Type 0) (s : State) : Type 0 where
-  pub steady : Steady s
-  pub current : (u v : ℕ) → u < s .n → v < s .n → (P u v → ⊥) → Current s u v
+-- ---- sound, and sound but for stale pairs
 
 pub sound-steady : {s : State} → Sound s → Steady s
 sound-steady {s} o = record {

@@ -18,7 +18,7 @@ use Rattle.hop_laws.proofs.Accepted.{accepted-fine, fine-accepts, fine-accepted
 use Rattle.hop_rest.specs.Walks.{HopCount, Nearer}
 use Rattle.hop_rest.specs.Rest.{Settled}
 use Rattle.hop_rest.specs.OnBytes.{asked, SettledBytes, RunSettles}
-use Rattle.hop_rest.proofs.Right.{Over}
+use Rattle.hop_rest.specs.Delivered.{Over}
 use Rattle.hop_rest.proofs.Settling.{rest-total, passes-over}
 use Rattle.hop_rest.proofs.Run.{made-most}
 use Rattle.hop_rest.proofs.Top.{comes-to-rest}

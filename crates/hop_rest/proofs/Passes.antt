@@ -12,19 +12,17 @@ use Rattle.hop_rule.specs.Sound.{Waits}
 use Rattle.hop_laws.proofs.Tests.{tells-eq, tells-and, decides}
 use Rattle.hop_rest.specs.Orders.{Queue, count}
 use Rattle.hop_rest.specs.Rest.{AtRest}
-use Rattle.hop_rest.proofs.Right.{Right, right-less, right-same, Over, ViewsRight, distance-most, distance-right, view-heard}
-use Rattle.hop_rest.proofs.Delivered.{Delivered, destination-below, gave, grown-front, grown-quiet}
-use Rattle.hop_rest.proofs.Runs.{count-at, count-other, Run, done, next}
+use Rattle.hop_rest.specs.Right.{Right, ViewsRight}
+use Rattle.hop_rest.specs.Delivered.{Over, Delivered, Run, done, next, Covers}
+use Rattle.hop_rest.proofs.Right.{right-less, right-same, distance-most, distance-right, view-heard}
+use Rattle.hop_rest.proofs.Delivered.{destination-below, gave, grown-front, grown-quiet}
+use Rattle.hop_rest.proofs.Runs.{count-at, count-other}
 
 -- In the middle of a pass that began with views right below k, with qs still to come: a destination that is not in front of its queue has a view right below k + 1.
 pub record Inside (g : State) (k : ℕ) (s : State) (qs : List Queue) : Type 0 where
   pub over : Over g s
   pub views : ViewsRight g k s
   pub served : (u w v : ℕ) → u < g .n → w < g .n → v < g .n → g .link u w ≡ 1 → (Waits v (take (count w u qs) (s .queue w u)) → ⊥) → Right g (suc k) (s .view u w v) w v
-
--- Every queue is asked for all that it holds. A pass does so, and more would do.
-abbrev pub Covers : State → State → List Queue → Type 0
-Covers g s qs = (w u : ℕ) → w < g .n → u < g .n → length (s .queue w u) ≤ count w u qs
 
 pub inside-start : (g : State) (k : ℕ) (s : State) (qs : List Queue) → k < g .n → Over g s → ViewsRight g k s → Covers g s qs → Inside g k s qs
 inside-start g k s qs lk o h c = record {

@@ -6,8 +6,10 @@ use native.Mathlib.Omega.{arith}
 use Rattle.hop_rule.specs.State.{State}
 use Rattle.hop_rest.specs.Walks.{Walk, HopCount, joined, apart}
 use Rattle.hop_rest.specs.Rest.{AtRest}
+use Rattle.hop_rest.specs.Right.{Right, ViewsRight}
+use Rattle.hop_rest.specs.Delivered.{Over}
 use Rattle.hop_rest.proofs.Walks.{walk-level}
-use Rattle.hop_rest.proofs.Right.{Right, right-none, Over, ViewsRight, distance-most, distance-own, distance-under, distance-right, view-heard}
+use Rattle.hop_rest.proofs.Right.{right-none, distance-most, distance-own, distance-under, distance-right, view-heard}
 
 module _ (g s : State) (o : Over g s) (rest : AtRest s) where
   pub rest-view : (u w v : ℕ) → u < g .n → w < g .n → v < g .n → g .link u w ≡ 1 → s .view u w v ≡ s .distance w v

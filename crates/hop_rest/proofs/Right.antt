@@ -1,5 +1,4 @@
--- 'Right below k': a is right below k as a distance from u to v when a < k gives a walk of length a, and every walk shorter than k is at least a.
--- In a sound state views right below k give distances right below k + 1. Nothing here knows of downstreams. Assumes nothing.
+-- Laws of 'right below k': in a sound state views right below k give distances right below k + 1. Nothing here knows of downstreams. Assumes nothing.
 use mathlib.Core.Path.{_≡_, refl, sym, subst, _∙_}
 use mathlib.Core.Logic.{_⊎_, inl, inr, _≢_}
 use Prim.Native.Nat.{ℕ, suc, _≤_, _<_}
@@ -10,11 +9,9 @@ use Rattle.hop_rule.specs.Rule.{least}
 use Rattle.hop_rule.specs.Sound.{Waits, Sound}
 use Rattle.hop_laws.proofs.Rule.{Attained, least-under, least-attained, distanceOf-own, distanceOf-other, distanceOf-most}
 use Rattle.hop_rest.specs.Walks.{Walk, here, hop}
+use Rattle.hop_rest.specs.Right.{Right, ViewsRight}
+use Rattle.hop_rest.specs.Delivered.{Over}
 use Rattle.hop_rest.proofs.Walks.{Begins, walk-begins}
-
-pub record Right (g : State) (k a u v : ℕ) : Type 0 where
-  pub walk : a < k → Walk g u v a
-  pub least : (e : ℕ) → e < k → Walk g u v e → a ≤ e
 
 pub right-none : {g : State} {a u v : ℕ} → Right g 0 a u v
 right-none = record { walk = λ l. absurd (omega arith); least = λ e l p. absurd (omega arith) }
@@ -32,18 +29,8 @@ right-same {k = k} {a = a} {b = b} r q la lb = go (decLt a k) (decLt b k)
     go (no x) (yes y) = omega (arith, r .least b y (q .walk y))
     go (no x) (no y) = omega arith
 
--- s is a sound state over the links of g, as every state of a run from g is.
-pub record Over (g s : State) : Type 0 where
-  pub sound : Sound s
-  pub nodes : s .n ≡ g .n
-  pub links : (u w : ℕ) → u < g .n → w < g .n → s .link u w ≡ g .link u w
-
 pub over-self : {s : State} → Sound s → Over s s
 over-self o = record { sound = o; nodes = refl; links = λ u w lu lw. refl }
-
--- All views over up links are right below k.
-abbrev pub ViewsRight : State → ℕ → State → Type 0
-ViewsRight g k s = (u w v : ℕ) → u < g .n → w < g .n → v < g .n → g .link u w ≡ 1 → Right g k (s .view u w v) w v
 
 module _ (g s : State) (o : Over g s) where
   -- ---- what soundness says, over g
