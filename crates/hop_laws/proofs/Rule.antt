@@ -12,7 +12,7 @@ use Rattle.hop_rule.specs.Words.{listed, first}
 use Rattle.hop_rule.specs.State.{State, Entry}
 use Rattle.hop_rule.specs.Rule.{up, sends, least, distanceOf, gives, downstreamOf, send, recompute, hear, deliver, linkUp, cut}
 use Rattle.hop_rule.specs.Sound.{Sends, Sound}
-pub use Rattle.hop_laws.specs.Current.{Current}
+use Rattle.hop_laws.specs.Current.{Current}
 use Rattle.hop_laws.proofs.Tests.{Tells, decides, tells-eq, tells-pair, tells-and, tells-or, tells-not, tells-same, tells-as, tells-not-so, choose-so, choose-else}
 use Rattle.hop_laws.proofs.Sound.{tells-sends}
 use Rattle.hop_laws.proofs.Words.{first-passes, first-before, first-same}

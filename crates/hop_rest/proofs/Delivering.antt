@@ -33,7 +33,7 @@ use Rattle.hop_rest.proofs.Ascending.{deliveries-both}
 use Rattle.hop_rest.proofs.Same.{deliver-same}
 use Rattle.hop_rest.proofs.Settling.{passes-settle}
 use Rattle.hop_rest.proofs.OnBytes.{over-head, over-read, over-fine, settled-bytes}
-use Rattle.hop_rest.proofs.Top.{comes-to-rest}
+use Rattle.hop_rest.proofs.Comes.{comes-to-rest}
 
 -- ---- one list behind another
 

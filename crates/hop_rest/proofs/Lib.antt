@@ -15,6 +15,7 @@ pub mod Run
 pub mod Same
 pub mod Tails
 pub mod Ends
+pub mod Comes
 pub mod Top
 pub mod Attained
 pub mod OnBytes

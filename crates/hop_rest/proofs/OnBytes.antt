@@ -21,7 +21,7 @@ use Rattle.hop_rest.specs.OnBytes.{asked, SettledBytes, RunSettles}
 use Rattle.hop_rest.specs.Delivered.{Over}
 use Rattle.hop_rest.proofs.Settling.{rest-total, passes-over}
 use Rattle.hop_rest.proofs.Run.{made-most}
-use Rattle.hop_rest.proofs.Top.{comes-to-rest}
+use Rattle.hop_rest.proofs.Comes.{comes-to-rest}
 
 -- ---- a state over the links of a buffer, stored there
 

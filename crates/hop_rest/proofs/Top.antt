@@ -1,46 +1,39 @@
--- What follows from the definitions, as specs/ states it: from every sound state the net comes to rest, no call looks behind the form, and either end of a link may be named first. This file only puts the chapters together. Assumes nothing.
-use mathlib.Core.Path.{_≡_, sym, subst, _∙_}
+-- What follows from the definitions, as specs/ states it; each claim is proved in the file that it cites. Assumes nothing.
+use mathlib.Core.Path.{_≡_, sym, _∙_}
 use mathlib.Core.List.{List, _++_}
-use Prim.Native.Nat.{ℕ, _*_, _-_, _≤_}
-use native.Mathlib.Omega.{arith}
+use Prim.Native.Nat.{ℕ, _≤_}
 use lib.ListN.{length}
-use Rattle.hop_rule.specs.State.{State}
-use Rattle.hop_rule.specs.Rule.{waitingFor, made}
-use Rattle.hop_rule.specs.Sound.{Sound}
 use Rattle.hop_rule.specs.Calls.{Call, outcome}
-use Rattle.hop_rest.specs.Orders.{deliveries}
-use Rattle.hop_rest.specs.Rest.{ComesToRest}
+use Rattle.hop_rest.specs.Rest.{EverySoundStateRests}
+use Rattle.hop_rest.specs.OnBytes.{EveryRunSettles, EveryDeliverySettles}
+use Rattle.hop_rest.specs.Accepted.{AcceptedStays, MadeAccepted}
 use Rattle.hop_rest.specs.Tails.{form, TailsUnread, NothingRead}
-use Rattle.hop_rest.specs.Ends.{EndsAlike}
-use Rattle.hop_laws.proofs.Ceiling.{waiting-for-most}
-use Rattle.hop_rest.proofs.Right.{over-self}
-use Rattle.hop_rest.proofs.Runs.{deliveries-over}
-use Rattle.hop_rest.proofs.Downstreams.{rest-settled}
-use Rattle.hop_rest.proofs.Ascending.{ascending-pass, ascending-deliveries}
-use Rattle.hop_rest.proofs.Settling.{passes-settle, rest-total, over-total, passes-over}
-use Rattle.hop_rest.proofs.Run.{made-most, made-rest, delivered-most}
+use Rattle.hop_rest.specs.Ends.{EitherEndFirst}
+use Rattle.hop_rest.proofs.Comes as comes
+use Rattle.hop_rest.proofs.OnBytes as bytes
+use Rattle.hop_rest.proofs.Delivering as bytes-by-deliveries
+use Rattle.hop_rest.proofs.Accepted as accepted
 use Rattle.hop_rest.proofs.Tails as tails
 use Rattle.hop_rest.proofs.Ends as ends
 
--- ---- coming to rest
+-- ---- coming to rest, of states; of bytes by a run, and by single deliveries
 
--- n³(n − 1) is n times n²(n − 1).
-cubed : {d : ℕ} (n m : ℕ) → d ≤ n * (n * n * m) → d ≤ n * n * n * m
-cubed n m l = omega arith
+pub every-sound-state-rests : EverySoundStateRests
+every-sound-state-rests = comes.comes-to-rest
 
-pub comes-to-rest : (s : State) → Sound s → ComesToRest s
-comes-to-rest s o = record {
-  settles = λ ps h l. let e = passes-settle s o ps h in rest-settled s _ (e .over) (e .rest l);
-  deliveries-most = λ ps h. cubed (s .n) (s .n - 1) (passes-settle s o ps h .few);
-  waiting-most = λ qs l. over-total (deliveries-over s s qs (over-self o) l);
-  waiting-for-most = λ qs l u lu.
-      let h = deliveries-over s s qs (over-self o) l in
-      subst (λ (m : ℕ). waitingFor (deliveries s qs) u ≤ m * (m - 1)) (h .nodes) (waiting-for-most _ (h .sound) u (omega arith));
-  pass-ascends = (ascending-pass s, ascending-deliveries s);
-  made-most = made-most s o;
-  delivered-most = λ k. cubed (s .n) (s .n - 1) (delivered-most s o k);
-  run-settles = λ k l. let r = made-rest s o k l in (rest-settled s _ (passes-over s o (made s k) (made-most s o k)) r, rest-total _ r);
-}
+pub every-run-settles : EveryRunSettles
+every-run-settles s k accepted enough = bytes.run-settles s accepted k enough
+
+pub every-delivery-settles : EveryDeliverySettles
+every-delivery-settles s accepted = bytes-by-deliveries.deliveries-settle s accepted
+
+-- ---- accepted buffers
+
+pub accepted-stays : AcceptedStays
+accepted-stays = accepted.accepted-stays
+
+pub made-accepted : MadeAccepted
+made-accepted = accepted.made-accepted
 
 -- ---- bytes behind the form
 
@@ -68,5 +61,5 @@ nothing-read = tails.nothing-read
 
 -- ---- the two ends of a link
 
-pub ends-alike : (s out : List ℕ) (a b : ℕ) → EndsAlike s out a b
-ends-alike = ends.ends-alike
+pub either-end-first : EitherEndFirst
+either-end-first = ends.ends-alike

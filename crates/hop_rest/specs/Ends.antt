@@ -8,3 +8,6 @@ use Rattle.hop_rule.specs.Calls.{up, down, outcome}
 pub record EndsAlike (s out : List ℕ) (a b : ℕ) : Type 0 where
   pub up-either : outcome (up a b) s out ≡ outcome (up b a) s out
   pub down-either : outcome (down a b) s out ≡ outcome (down b a) s out
+
+abbrev pub EitherEndFirst : Type 0
+EitherEndFirst = (s out : List ℕ) (a b : ℕ) → EndsAlike s out a b

@@ -74,3 +74,11 @@ pub record DeliveriesSettle (s : List ℕ) : Type 0 where
   -- and at every moment, whatever was called, check accepts the buffer and at most n²(n − 1) entries wait.
   pub accepted : (qs : List Queue) → outcome check (delivering s qs) [] .number ≡ 0
   pub waiting-most : (qs : List Queue) → asked totalQueued (delivering s qs) ≤ nodes s * nodes s * (nodes s - 1)
+
+-- ---- the claims, of every buffer that check accepts
+
+abbrev pub EveryRunSettles : Type 0
+EveryRunSettles = (s : List ℕ) (k : ℕ) → outcome check s [] .number ≡ 0 → nodes s ≤ k → RunSettles s k
+
+abbrev pub EveryDeliverySettles : Type 0
+EveryDeliverySettles = (s : List ℕ) → outcome check s [] .number ≡ 0 → DeliveriesSettle s

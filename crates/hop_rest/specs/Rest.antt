@@ -5,6 +5,7 @@ use Prim.Native.Nat.{ℕ, suc, _*_, _-_, _≤_, _<_}
 use lib.ListN.{length}
 use Rattle.hop_rule.specs.State.{State}
 use Rattle.hop_rule.specs.Rule.{total, waitingFor, pass, passes, made, delivered}
+use Rattle.hop_rule.specs.Sound.{Sound}
 use Rattle.hop_rest.specs.Walks.{Walk, HopCount, Nearer}
 use Rattle.hop_rest.specs.Orders.{Queue, Nodes, deliveries, Pass, ascending, Passes, after, deliveriesIn}
 
@@ -39,3 +40,7 @@ pub record ComesToRest (s : State) : Type 0 where
   pub made-most : (k : ℕ) → made s k ≤ s .n
   pub delivered-most : (k : ℕ) → delivered s (made s k) ≤ s .n * s .n * s .n * (s .n - 1)
   pub run-settles : (k : ℕ) → s .n ≤ k → Settled s (passes s (made s k)) × (total (passes s (made s k)) ≡ 0)
+
+-- The claim, of every sound state.
+abbrev pub EverySoundStateRests : Type 0
+EverySoundStateRests = (s : State) → Sound s → ComesToRest s

@@ -7,7 +7,8 @@ use native.Mathlib.Omega.{arith}
 use Rattle.hop_rule.specs.State.{State}
 use Rattle.hop_rule.specs.Rule.{least}
 use Rattle.hop_rule.specs.Sound.{Leads}
-use Rattle.hop_laws.proofs.Rule.{least-most, least-under, least-above, distanceOf-own, distanceOf-other, distanceOf-most, downstreamOf-own, downstreamOf-none, downstreamOf-is, Current, current-own, current-none, current-gives}
+use Rattle.hop_laws.specs.Current.{Current}
+use Rattle.hop_laws.proofs.Rule.{least-most, least-under, least-above, distanceOf-own, distanceOf-other, distanceOf-most, downstreamOf-own, downstreamOf-none, downstreamOf-is, current-own, current-none, current-gives}
 use Rattle.hop_sound_rows.proofs.SoundTests.{Allows}
 
 -- Every up link of u allows distance d to v by way of h.

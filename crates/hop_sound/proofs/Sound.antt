@@ -11,7 +11,8 @@ use Rattle.hop_rule.specs.Stored.{flat, deep, readAs}
 use Rattle.hop_rule.specs.Sound.{SoundAs, isSoundAs}
 use Rattle.hop_laws.proofs.Tests.{tells-as, tells-same}
 use Rattle.hop_laws.proofs.Words.{length-listed}
-use Rattle.hop_laws.proofs.Rule.{Current, sound-current}
+use Rattle.hop_laws.specs.Current.{Current}
+use Rattle.hop_laws.proofs.Rule.{sound-current}
 use Rattle.hop_laws.proofs.Queues.{listed-each}
 use Rattle.hop_laws.proofs.Sound.{sound-bytes-tells}
 use Rattle.hop_sound.specs.Check.{nodeSound, allSound}
