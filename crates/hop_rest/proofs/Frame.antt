@@ -6,6 +6,7 @@ use Prim.Native.Nat.{ℕ}
 use Rattle.hop_rule.specs.State.{State, Entry}
 use Rattle.hop_rule.specs.Rule.{distanceOf, send, recompute, hear, deliver}
 use Rattle.hop_rule.specs.Sound.{Sends}
+use Rattle.hop_rest.specs.Frame.{EveryDeliveryRewritesOnly}
 use Rattle.hop_laws.proofs.Rule.{recompute-distance-at, recompute-distance-other, recompute-downstream-other, recompute-queue-sent, recompute-queue-other, hear-view-at, hear-view-other, hear-queue-at, hear-queue-other, deliver-head, deliver-none}
 
 -- v is the destination of the entry at the head.
@@ -48,6 +49,16 @@ module _ (s : State) (w u : ℕ) where
   unfolding hear
   deliver-queue-other a b f g = stays (λ t. t .queue a b) (λ head rest e.
       recompute-queue-other (hear s w u head rest) u (head .destination) a b (λ i q. absurd (g i q)) ∙ hear-queue-other s w u head rest a b f)
+
+pub delivery-rewrites-only : EveryDeliveryRewritesOnly
+delivery-rewrites-only s w u = record {
+  nodes = deliver-n s w u;
+  links = deliver-link s w u;
+  views = λ a b c f. deliver-view-other s w u a b c (λ i. absurd (f i));
+  distances = λ a c f. deliver-distance-other s w u a c (λ i. absurd (f i));
+  downstreams = λ a c f. deliver-downstream-other s w u a c (λ i. absurd (f i));
+  queues = λ a b f g. deliver-queue-other s w u a b g (λ i. absurd (f i));
+}
 
 -- ---- what changes, where an entry waits and w is not u
 

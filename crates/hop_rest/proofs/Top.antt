@@ -1,17 +1,16 @@
 -- What follows from the definitions, as specs/ states it; each claim is proved in the file that it cites. Assumes nothing.
-use mathlib.Core.Path.{_≡_, sym, _∙_}
-use mathlib.Core.List.{List, _++_}
-use Prim.Native.Nat.{ℕ, _≤_}
-use lib.ListN.{length}
-use Rattle.hop_rule.specs.Calls.{Call, outcome}
+use mathlib.Core.Path.{sym, _∙_}
+use Rattle.hop_rule.specs.Calls.{outcome}
 use Rattle.hop_rest.specs.Rest.{EverySoundStateRests}
 use Rattle.hop_rest.specs.OnBytes.{EveryRunSettles, EveryDeliverySettles}
+use Rattle.hop_rest.specs.Frame.{EveryDeliveryRewritesOnly}
 use Rattle.hop_rest.specs.Accepted.{AcceptedStays, MadeAccepted}
-use Rattle.hop_rest.specs.Tails.{form, TailsUnread, NothingRead}
+use Rattle.hop_rest.specs.Tails.{TailsUnread, TwoTailsOneAnswer, MakeReadsNothing}
 use Rattle.hop_rest.specs.Ends.{EitherEndFirst}
 use Rattle.hop_rest.proofs.Comes as comes
 use Rattle.hop_rest.proofs.OnBytes as bytes
 use Rattle.hop_rest.proofs.Delivering as bytes-by-deliveries
+use Rattle.hop_rest.proofs.Frame as frame
 use Rattle.hop_rest.proofs.Accepted as accepted
 use Rattle.hop_rest.proofs.Tails as tails
 use Rattle.hop_rest.proofs.Ends as ends
@@ -27,6 +26,11 @@ every-run-settles s k accepted enough = bytes.run-settles s accepted k enough
 pub every-delivery-settles : EveryDeliverySettles
 every-delivery-settles s accepted = bytes-by-deliveries.deliveries-settle s accepted
 
+-- ---- what a delivery rewrites
+
+pub delivery-rewrites-only : EveryDeliveryRewritesOnly
+delivery-rewrites-only = frame.delivery-rewrites-only
+
 -- ---- accepted buffers
 
 pub accepted-stays : AcceptedStays
@@ -40,24 +44,23 @@ made-accepted = accepted.made-accepted
 pub tails-unread : TailsUnread
 tails-unread = tails.tails-unread
 
--- One form and two tails r and t: the same number, the same answers, the same output;
-module _ (c : Call) (f r t out : List ℕ) (room : form c f ≤ length f) where
-  pub one-number : outcome c (f ++ r) out .number ≡ outcome c (f ++ t) out .number
-  one-number = let e = tails-unread c f out room in e .number r ∙ sym (e .number t)
-
-  pub one-answer : outcome c (f ++ r) out .answers ≡ outcome c (f ++ t) out .answers
-  one-answer = let e = tails-unread c f out room in e .answers r ∙ sym (e .answers t)
-
-  pub one-output : outcome c (f ++ r) out .output ≡ outcome c (f ++ t) out .output
-  one-output = let e = tails-unread c f out room in e .output r ∙ sym (e .output t)
-
-  -- and one x stands in the place of f, before each its own tail.
-  pub own-tails : (x : List ℕ) × (length x ≡ length f) × (outcome c (f ++ r) out .bytes ≡ x ++ r) × (outcome c (f ++ t) out .bytes ≡ x ++ t)
-  own-tails = let e = tails-unread c f out room in (outcome c f out .bytes, e .length-kept, e .bytes r, e .bytes t)
+-- So one form has one answer, whatever follows it.
+pub two-tails-one-answer : TwoTailsOneAnswer
+two-tails-one-answer c f r t out room =
+    let e = tails.tails-unread c f out room in
+    record {
+      number = e .number r ∙ sym (e .number t);
+      answers = e .answers r ∙ sym (e .answers t);
+      output = e .output r ∙ sym (e .output t);
+      left = outcome c f out .bytes;
+      length-left = e .length-kept;
+      first = e .bytes r;
+      second = e .bytes t;
+    }
 
 -- Making a state looks at no byte.
-pub nothing-read : (n : ℕ) (s out : List ℕ) → NothingRead n s out
-nothing-read = tails.nothing-read
+pub make-reads-nothing : MakeReadsNothing
+make-reads-nothing = tails.nothing-read
 
 -- ---- the two ends of a link
 

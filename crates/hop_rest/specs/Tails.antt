@@ -37,6 +37,20 @@ pub record TailUnread (c : Call) (f out : List ℕ) : Type 0 where
 abbrev pub TailsUnread : Type 0
 TailsUnread = (c : Call) (f out : List ℕ) → form c f ≤ length f → TailUnread c f out
 
+-- The same of two tails r and t behind one form:
+pub record OneAnswer (c : Call) (f r t out : List ℕ) : Type 0 where
+  pub number : outcome c (f ++ r) out .number ≡ outcome c (f ++ t) out .number
+  pub answers : outcome c (f ++ r) out .answers ≡ outcome c (f ++ t) out .answers
+  pub output : outcome c (f ++ r) out .output ≡ outcome c (f ++ t) out .output
+  -- one list stands in the place of f, before each its own tail
+  pub left : List ℕ
+  pub length-left : length left ≡ length f
+  pub first : outcome c (f ++ r) out .bytes ≡ left ++ r
+  pub second : outcome c (f ++ t) out .bytes ≡ left ++ t
+
+abbrev pub TwoTailsOneAnswer : Type 0
+TwoTailsOneAnswer = (c : Call) (f r t out : List ℕ) → form c f ≤ length f → OneAnswer c f r t out
+
 -- Making a state of n nodes in a buffer s:
 pub record NothingRead (n : ℕ) (s out : List ℕ) : Type 0 where
   -- in any other buffer t of the same length its number, its answers and its output are the same;
@@ -45,3 +59,6 @@ pub record NothingRead (n : ℕ) (s out : List ℕ) : Type 0 where
   pub output : (t : List ℕ) → length t ≡ length s → outcome (make n) t out .output ≡ outcome (make n) s out .output
   -- and where it is made, the bytes are those of the fresh state, and behind them what stood there.
   pub bytes : outcome (make n) s out .number ≡ 0 → outcome (make n) s out .bytes ≡ stored (fresh n) ++ drop (size n) s
+
+abbrev pub MakeReadsNothing : Type 0
+MakeReadsNothing = (n : ℕ) (s out : List ℕ) → NothingRead n s out

@@ -31,12 +31,12 @@ unfoldable pub damages : List (List ℕ)
 damages =
     -- link bytes are 0 or 1
     damaged (stray Links 1 2 ∷ stray Links 2 2 ∷ []) apart
-    -- symmetric: 0's end is up and all of 1's destinations wait, but 1's end is down
-    ∷ damaged (stray Links 2 0 ∷ stray Lengths 1 0 ∷ stray Destinations 3 0 ∷ stray Values 3 0 ∷ []) linked
+    -- symmetric: 1's end is up and all of its destinations wait, but 0's end is down
+    ∷ damaged (stray Links 1 0 ∷ stray Lengths 1 0 ∷ stray Destinations 3 0 ∷ stray Values 3 0 ∷ []) linked
     -- 0 on the diagonal: 0 is linked to itself, and all of its destinations wait
     ∷ damaged (stray Links 0 1 ∷ stray Lengths 0 2 ∷ stray Destinations 1 1 ∷ stray Values 1 2 ∷ []) apart
-    -- each distance is what recompute gives
-    ∷ damaged (stray Distances 1 1 ∷ []) apart
+    -- each distance is what recompute gives: a neighbour that is not there, and the downstream that would go with it
+    ∷ damaged (stray Distances 1 1 ∷ stray Downstreams 1 2 ∷ []) apart
     -- and each downstream
     ∷ damaged (stray Downstreams 1 1 ∷ []) apart
     -- views are at most n
