@@ -46,7 +46,7 @@ empty s = record { number = 2; applies = eqb (length s) 0 }
 abbrev pub badCount : ℕ → Refusal
 badCount n = record { number = 1; applies = eqb n 0 || ltb 40 n }
 
-abbrev pub short : List ℕ → ℕ → Refusal
+abbrev pub short : {A : Type 0} → List A → ℕ → Refusal
 short s needed = record { number = 2; applies = ltb (length s) needed }
 
 abbrev pub notSound : List ℕ → Refusal
@@ -66,6 +66,10 @@ isDown s a b = record { number = 7; applies = not (rule.up (read s) a b) }
 
 abbrev pub nothingWaits : List ℕ → ℕ → ℕ → Refusal
 nothingWaits s w u = record { number = 8; applies = eqb (length (read s .queue w u)) 0 }
+
+-- 02, R-1: the state is not at rest.
+abbrev pub notAtRest : List ℕ → Refusal
+notAtRest s = record { number = 12; applies = not (eqb (rule.total (read s)) 0) }
 
 -- Order for calls on a state: empty buffer 2, then 1, short buffer 2, 3, 4, 5, 6 or 7, 8, last an output that is too short 2. Making a state: 1, then 2.
 abbrev pub onState : List ℕ → List Refusal → List Refusal

@@ -6,6 +6,8 @@ pub mod Sound
 pub mod Records
 pub mod Calls
 pub mod Fixed
+pub mod Worth
 pub mod Numbers
 pub mod Damage
 pub mod Readings
+pub mod WorthTable

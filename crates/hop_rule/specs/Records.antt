@@ -47,7 +47,7 @@ unfoldable pub statusRecord : State → ℕ → List ℕ
 statusRecord s u = recordOf 1 (u ∷ waitingFor s u ∷ waitingFrom s u ∷ reached s u ∷ total s ∷ [])
 
 -- Writing puts the record first and changes none of the bytes after it.
-unfoldable pub written : List ℕ → List ℕ → List ℕ
+unfoldable pub written : {A : Type 0} → List A → List A → List A
 written r out = r ++ drop (length r) out
 
 -- Reading knows the five event kinds only; each has its length.
