@@ -3,14 +3,16 @@
 use hop_cells::get2;
 use hop_cells::nodes;
 use hop_cells::size;
+use hop_counts::queued;
 use hop_rule::Table;
 use hop_sound::is_sound;
 ghost use mathlib.Core.Path.{_≡_};
 ghost use mathlib.Core.List.{[], _∷_};
-ghost use Prim.Native.Nat.{_<_};
+ghost use Prim.Native.Nat.{_+_, _*_, _-_, _≤_, _<_};
 ghost use Rattle.hop_rule.specs.Words.{if_then_else_};
 ghost use Rattle.hop_rule.specs.Stored as stored;
-ghost use Rattle.hop_rule.specs.Calls.{judge, refusals, onState, noNode, oneNode, make, up, down, deliver, status};
+ghost use Rattle.hop_rule.specs.Calls.{judge, refusals, onState, noNode, oneNode, notAtRest, short, make, up, down, deliver, status};
+ghost use Rattle.hop_rule.specs.Worth.{worthRefusals};
 ghost use Rattle.hop_judge.specs.Verdict.{verdict};
 
 // A call goes on with a state of so many nodes, or is refused with a number.
@@ -122,6 +124,44 @@ pub fn judge_status(s: &[u8], u: usize, out: &[u8]) -> Judged
 {
     match judge_node(s, u) {
         Judged::Go(n) => unless(out.len() < 14, 2, n),
+        refused => refused,
+    }
+}
+
+// A state that is not at rest 12,
+fn judge_rest(s: &[u8]) -> Judged
+    ensures { λ r. ⌜ r ≡ verdict (judge (onState (now (s .entry)) (notAtRest (now (s .entry)) ∷ []))) (stored.nodes (now (s .entry))) ⌝ }
+{
+    match judge_state(s) {
+        Judged::Go(n) => unless(queued(s, n) != 0, 12, n),
+        refused => refused,
+    }
+}
+
+// before a trial buffer that is too short 2
+fn judge_trial(s: &[u8], trial: &[u8]) -> Judged
+    ensures { λ r. ⌜ r ≡ verdict (judge (onState (now (s .entry)) (notAtRest (now (s .entry)) ∷ short (now (trial .entry)) (stored.size (stored.nodes (now (s .entry)))) ∷ []))) (stored.nodes (now (s .entry))) ⌝ }
+{
+    match judge_rest(s) {
+        Judged::Go(n) => unless(trial.len() < size(n), 2, n),
+        refused => refused,
+    }
+}
+
+// How many pairs n nodes have.
+fn pairs(n: usize) -> usize
+    requires { ⌜ (1 ≤ n) × (n ≤ 40) ⌝ }
+    ensures { λ r. ⌜ (r * 2 ≡ n * (n - 1)) × (r ≤ 780) ⌝ }
+{
+    n * (n - 1) / 2
+}
+
+// or a list with fewer than seven numbers for each pair 2.
+pub fn judge_worth(s: &[u8], trial: &[u8], list: &[i32]) -> Judged
+    ensures { λ r. ⌜ r ≡ verdict (judge (worthRefusals (now (s .entry)) (now (trial .entry)) (now (list .entry)))) (stored.nodes (now (s .entry))) ⌝ }
+{
+    match judge_trial(s, trial) {
+        Judged::Go(n) => unless(list.len() < 7 * pairs(n), 2, n),
         refused => refused,
     }
 }
