@@ -16,6 +16,8 @@ pub mod Same
 pub mod Tails
 pub mod Ends
 pub mod Comes
+pub mod Changes
+pub mod Worth
 pub mod Top
 pub mod Attained
 pub mod OnBytes

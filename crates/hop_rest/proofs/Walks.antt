@@ -1,10 +1,12 @@
--- Laws of walks: how one begins, that a pair has one hop count, and that whatever falls by at most one at each link is below n where a walk leads. Assumes nothing.
+-- Laws of walks: how one begins, that a pair has one hop count, which no further link makes larger, and that whatever falls by at most one at each link is below n where a walk leads. Assumes nothing.
 use mathlib.Core.Path.{_≡_, refl, sym, _∙_}
 use mathlib.Core.Logic.{_⊎_, inl, inr}
 use Prim.Native.Nat.{ℕ, suc, _≤_, _<_}
 use native.Mathlib.Decide.{ℕ-discrete, decLt}
 use native.Mathlib.Omega.{arith}
+use lib.Dec.{ltb}
 use Rattle.hop_rule.specs.State.{State}
+use Rattle.hop_laws.proofs.Tests.{Tells, tells-as, tells-lt}
 use Rattle.hop_laws.proofs.Queues.{cover-most}
 use Rattle.hop_rest.specs.Walks.{Walk, here, hop, HopCount, joined, apart}
 
@@ -27,6 +29,27 @@ hop-count-same {d = d} {e = e} (joined b p l) (joined b′ p′ l′) = omega (a
 hop-count-same {d = d} (joined b p l) (apart i f) = absurd (f d p)
 hop-count-same {e = e} (apart i f) (joined b p l) = absurd (f e p)
 hop-count-same (apart i f) (apart j g) = i ∙ sym j
+
+-- More links: every up link of s is up in t.
+pub record More (s t : State) : Type 0 where
+  pub nodes : t .n ≡ s .n
+  pub links : (x y : ℕ) → x < s .n → y < s .n → s .link x y ≡ 1 → t .link x y ≡ 1
+
+-- A walk stays a walk, and no hop count grows.
+walk-more : {s t : State} → More s t → {u v d : ℕ} → Walk s u v d → Walk t u v d
+walk-more m here = here
+walk-more m (hop {u = u} {w = w} lu lw q p) = hop {u = u} {w = w} (omega (arith, m .nodes)) (omega (arith, m .nodes)) (m .links u w lu lw q) (walk-more m p)
+
+pub hop-count-more : {s t : State} → More s t → {u v d e : ℕ} → HopCount s u v d → HopCount t u v e → e ≤ d
+hop-count-more m {d = d} (joined b p l) (joined c q k) = k d (walk-more m p)
+hop-count-more m {d = d} (joined b p l) (apart i f) = absurd (f d (walk-more m p))
+hop-count-more m (apart j g) (joined c q k) = omega (arith, m .nodes)
+hop-count-more m (apart j g) (apart i f) = omega (arith, m .nodes)
+
+-- A hop count is below n exactly where a walk joins the two.
+pub hop-count-tells : {s : State} {u v d : ℕ} → HopCount s u v d → Tells (ltb d (s .n)) ((e : ℕ) × Walk s u v e)
+hop-count-tells {s} {d = d} (joined b p l) = tells-as (λ k. (d, p)) (λ w. b) (tells-lt d (s .n))
+hop-count-tells {s} {d = d} (apart i f) = tells-as (λ k. absurd (omega arith)) (λ w. absurd (f (w .0) (w .1))) (tells-lt d (s .n))
 
 -- Levels: 0 at v, and at most one more over each up link.
 module _ (s : State) (v : ℕ) (lv : v < s .n) (level : ℕ → ℕ) (ends : level v ≡ 0) (falls : (x y : ℕ) → x < s .n → y < s .n → s .link x y ≡ 1 → level x ≤ suc (level y)) where
