@@ -1,21 +1,29 @@
 -- R-1's lines: the turned state is sound, so that its trial comes to rest; every number fits; and before and after are the true hop counts, which more links do not make larger. Assumes nothing.
-use mathlib.Core.Path.{_≡_, refl, sym, subst}
-use mathlib.Core.Logic.{_≢_}
+use mathlib.Core.Path.{_≡_, refl, sym, ap, subst, _∙_}
+use mathlib.Core.Logic.{inl, inr, _≢_}
+use mathlib.Core.Bool.{Bool}
 use Prim.Native.Nat.{ℕ, _*_, _-_, _≤_, _<_}
 use native.Mathlib.Nat.{mul-le-mul, le-trans}
 use native.Mathlib.Decide.{ℕ-discrete}
 use native.Mathlib.Omega.{arith}
+use lib.Dec.{ltb}
 use Rattle.hop_rule.specs.State.{State}
-use Rattle.hop_rule.specs.Rule.{linkUp, linkDown, total}
+use Rattle.hop_rule.specs.Rule.{recompute, linkUp, cut, recomputeAll, linkDown, total}
 use Rattle.hop_rule.specs.Sound.{Sound}
-use Rattle.hop_rule.specs.Worth.{turned, trialPasses, trial, line}
-use Rattle.hop_laws.proofs.Tests.{tells-eq, choose-so, choose-else}
-use Rattle.hop_rest.specs.Rest.{ComesToRest, Settled}
-use Rattle.hop_rest.specs.Worth.{EveryLineFits}
+use Rattle.hop_rule.specs.Worth.{turned, trialPasses, trial, routed, line}
+use Rattle.hop_laws.proofs.Tests.{tells-eq, tells-same, decides, choose-so, choose-else}
+use Rattle.hop_laws.proofs.Words.{loop-keeps}
+use Rattle.hop_laws.proofs.Rule.{Between, tells-between, Both, up-link, cut-link}
+use Rattle.hop_rest.specs.Walks.{HopCount}
+use Rattle.hop_rest.specs.Rest.{AtRest, ComesToRest, Settled}
+use Rattle.hop_rest.specs.Worth.{HopCounts, Joins, LineTells, EveryLineFits}
 use Rattle.hop_rest.proofs.Kept.{down-keeps-sound, up-keeps-sound}
 use Rattle.hop_rest.proofs.Same.{down-n}
+use Rattle.hop_rest.proofs.Walks.{hop-count-same, More, hop-count-more, hop-count-tells}
+use Rattle.hop_rest.proofs.Right.{over-self}
+use Rattle.hop_rest.proofs.Rest.{rest-hop-count}
 use Rattle.hop_rest.proofs.Comes.{comes-to-rest}
-use Rattle.hop_rest.proofs.Changes.{lost-most, change-most}
+use Rattle.hop_rest.proofs.Changes.{Agree, NoLarger, lost-parted, lost-most, lost-none, change-same, change-most, change-not-above, change-not-below}
 
 -- ---- the turned state
 
@@ -34,6 +42,20 @@ turned-nodes s a b = turned-by (λ t. t .n ≡ s .n) s a b (λ q. down-n s a b) 
 
 pub turned-sound : (s : State) (a b : ℕ) → Sound s → a < b → b < s .n → Sound (turned s a b)
 turned-sound s a b o ascends inside = turned-by Sound s a b (λ q. down-keeps-sound s a b o (omega arith) inside) (λ f. up-keeps-sound s a b o (omega arith) inside (λ e. omega arith) f)
+
+-- Its links are those of s, but for the pair's, which is turned at both ends.
+recompute-all-link : (s : State) (u x y : ℕ) → recomputeAll s u .link x y ≡ s .link x y
+unfolding recomputeAll recompute
+recompute-all-link s u x y = loop-keeps (λ t. t .link x y ≡ s .link x y) (s .n) _ s refl (λ v t l e. e)
+
+down-link : (s : State) (a b x y : ℕ) → linkDown s a b .link x y ≡ cut s a b .link x y
+unfolding linkDown
+down-link s a b x y = recompute-all-link (recomputeAll (cut s a b) a) b x y ∙ recompute-all-link (cut s a b) a x y
+
+turned-link : (s : State) (a b : ℕ) → s .link a b ≤ 1 → (x y : ℕ) → Both a b x y (turned s a b .link x y) (1 - s .link a b) (s .link x y)
+turned-link s a b bit x y = turned-by (λ t. Both a b x y (t .link x y) (1 - s .link a b) (s .link x y)) s a b
+    (λ q. record { at = λ h. omega (arith, q, down-link s a b x y, cut-link s a b x y .at h); other = λ f. down-link s a b x y ∙ cut-link s a b x y .other f })
+    (λ f. record { at = λ h. omega (arith, f, bit, up-link s a b x y .at h); other = up-link s a b x y .other })
 
 -- ---- the trial
 
@@ -79,3 +101,79 @@ line-fits s o few a b ascends inside =
       gained-most = le-trans (lost-most (s .n) _ _) two;
       change-most = le-trans (change-most (s .n) _ _) three;
     }
+
+-- ---- what a line tells of a state that is at rest
+
+-- Whoever tells whether two nodes are joined tells it as their hop count does.
+joins-routed : {g : State} {j : ℕ → ℕ → Bool} {u v d : ℕ} → Joins g j → u < g .n → v < g .n → (n : ℕ) → g .n ≡ n → HopCount g u v d → ltb d n ≡ j u v
+joins-routed {u = u} {v} joins lu lv n e h =
+    rw (← e) (tells-same (hop-count-tells h) (record { shows = joins .only u v lu lv; if-so = λ w. joins .so u v (w .0) lu lv (w .1) }))
+
+module _ (s : State) (o : Sound s) (rest : AtRest s) (few : s .n ≤ 255) (a b : ℕ) (ascends : a < b) (inside : b < s .n) where
+  nodes : turned s a b .n ≡ s .n
+  nodes = turned-nodes s a b
+
+  bit : s .link a b ≤ 1
+  bit = o .bits a b (omega arith) inside
+
+  -- The tables before and after are those of the hop counts.
+  abbrev after : ℕ → ℕ → ℕ
+  after = trial s a b .distance
+
+  before-counts : HopCounts s (s .distance)
+  before-counts = rest-hop-count s s (over-self o) rest
+
+  after-counts : (u v : ℕ) → u < s .n → v < s .n → HopCount (turned s a b) u v (after u v)
+  after-counts u v lu lv = trial-settled s a b o few ascends inside .distances u v (rw nodes lu) (rw nodes lv)
+
+  before-agree : (d : ℕ → ℕ → ℕ) → HopCounts s d → Agree (s .n) (s .distance) d
+  before-agree d h u v lu lv = hop-count-same (before-counts u v lu lv) (h u v lu lv)
+
+  after-agree : (d : ℕ → ℕ → ℕ) → HopCounts (turned s a b) d → Agree (s .n) after d
+  after-agree d h u v lu lv = hop-count-same (after-counts u v lu lv) (h u v (rw nodes lu) (rw nodes lv))
+
+  before-routed : (j : ℕ → ℕ → Bool) → Joins s j → (u v : ℕ) → u < s .n → v < s .n → routed (s .n) (s .distance) u v ≡ j u v
+  before-routed j h u v lu lv = joins-routed h lu lv (s .n) refl (before-counts u v lu lv)
+
+  after-routed : (j : ℕ → ℕ → Bool) → Joins (turned s a b) j → (u v : ℕ) → u < s .n → v < s .n → routed (s .n) after u v ≡ j u v
+  after-routed j h u v lu lv = joins-routed h (rw nodes lu) (rw nodes lv) (s .n) nodes (after-counts u v lu lv)
+
+  -- One of the two has more links.
+  away-more : s .link a b ≡ 1 → More (turned s a b) s
+  away-more q = record { nodes = sym nodes; links = λ x y lx ly k. was x y k (decides (tells-between a b x y)) }
+    where
+      was : (x y : ℕ) → turned s a b .link x y ≡ 1 → Dec (Between a b x y) → s .link x y ≡ 1
+      was x y k (yes h) = absurd (omega (arith, turned-link s a b bit x y .at h))
+      was x y k (no f) = sym (turned-link s a b bit x y .other f) ∙ k
+
+  added-more : s .link a b ≢ 1 → More s (turned s a b)
+  added-more f = record { nodes = nodes; links = λ x y lx ly k. still x y k (decides (tells-between a b x y)) }
+    where
+      still : (x y : ℕ) → s .link x y ≡ 1 → Dec (Between a b x y) → turned s a b .link x y ≡ 1
+      still x y k (yes h) = omega (arith, f, bit, turned-link s a b bit x y .at h)
+      still x y k (no g) = turned-link s a b bit x y .other g ∙ k
+
+  away-no-larger : s .link a b ≡ 1 → NoLarger (s .n) after (s .distance)
+  away-no-larger q u v lu lv = hop-count-more (away-more q) (after-counts u v lu lv) (before-counts u v lu lv)
+
+  added-no-larger : s .link a b ≢ 1 → NoLarger (s .n) (s .distance) after
+  added-no-larger f u v lu lv = hop-count-more (added-more f) (before-counts u v lu lv) (after-counts u v lu lv)
+
+  pub line-tells : LineTells s a b
+  unfolding line
+  line-tells = record {
+    same-nodes = nodes;
+    first-end = turned-link s a b bit a b .at (inl (refl, refl));
+    second-end = turned-link s a b bit b a .at (inr (refl, refl)) ∙ ap (λ x. 1 - x) (o .symmetric a b (omega arith) inside);
+    other-links = λ x y f g. turned-link s a b bit x y .other (λ h. elim h [ inl p ↦ f p | inr p ↦ g p ]);
+    settled = trial-settled s a b o few ascends inside;
+    passes-most = passes-most s a b o ascends inside;
+    deliveries-most = deliveries-most s a b o ascends inside;
+    lost-true = λ j k h i. lost-parted (s .n) (s .distance) after j k (before-routed j h) (after-routed k i);
+    gained-true = λ j k h i. lost-parted (s .n) after (s .distance) k j (after-routed k i) (before-routed j h);
+    change-true = λ d e h i. change-same (s .n) (s .distance) after d e (before-agree d h) (after-agree e i);
+    away-gained = λ q. lost-none (s .n) after (s .distance) (away-no-larger q);
+    away-change = λ q. change-not-below (s .n) after (s .distance) (away-no-larger q);
+    added-lost = λ f. lost-none (s .n) (s .distance) after (added-no-larger f);
+    added-change = λ f. change-not-above (s .n) (s .distance) after (added-no-larger f);
+  }
