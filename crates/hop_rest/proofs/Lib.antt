@@ -18,6 +18,7 @@ pub mod Ends
 pub mod Comes
 pub mod Changes
 pub mod Worth
+pub mod Lines
 pub mod Top
 pub mod Attained
 pub mod OnBytes
