@@ -80,6 +80,10 @@ module _ (n : ℕ) (d e : ℕ → ℕ → ℕ) where
   unfolding lost
   lost-parted before after h k = over-same n _ _ (λ u v lu lv. rw (h u v lu lv, k u v lu lv))
 
+  pub lost-same : (d′ e′ : ℕ → ℕ → ℕ) → Agree n d d′ → Agree n e e′ → lost n d e ≡ lost n d′ e′
+  unfolding lost
+  lost-same d′ e′ h k = lost-parted (routed n d′) (routed n e′) (λ u v lu lv. rw (h u v lu lv)) (λ u v lu lv. rw (k u v lu lv))
+
   hops-same : (d′ e′ : ℕ → ℕ → ℕ) → Agree n d d′ → Agree n e e′ → hops n d e ≡ hops n d′ e′
   unfolding hops
   hops-same d′ e′ h k = over-same n _ _ (λ u v lu lv. rw (h u v lu lv, k u v lu lv))

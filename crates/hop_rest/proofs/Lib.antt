@@ -19,6 +19,7 @@ pub mod Comes
 pub mod Changes
 pub mod Worth
 pub mod Lines
+pub mod WorthCall
 pub mod Top
 pub mod Attained
 pub mod OnBytes

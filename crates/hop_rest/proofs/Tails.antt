@@ -43,7 +43,7 @@ module _ (f r : List ℕ) (room : size (nodes f) ≤ length f) where
         le-ltb (length f) (size (nodes f)) room,
       )
 
-  state-judged : (more less : List Refusal) → (Fine f → judge more ≡ judge less) → judge (onState (f ++ r) more) ≡ judge (onState f less)
+  pub state-judged : (more less : List Refusal) → (Fine f → judge more ≡ judge less) → judge (onState (f ++ r) more) ≡ judge (onState f less)
   state-judged more less h = go (ℕ-discrete (judge (onState f [])) 0)
     where
       own : judge (onState (f ++ r) []) ≡ judge (onState f [])
