@@ -7,6 +7,7 @@ use Rattle.hop_rest.specs.Frame.{EveryDeliveryRewritesOnly}
 use Rattle.hop_rest.specs.Accepted.{AcceptedStays, MadeAccepted}
 use Rattle.hop_rest.specs.Tails.{TailsUnread, TwoTailsOneAnswer, MakeReadsNothing}
 use Rattle.hop_rest.specs.Ends.{EitherEndFirst}
+use Rattle.hop_rest.specs.Worth.{EveryLineTells, EveryLineFits, EveryPairHasItsLine, EveryWorthTells, WorthTailUnread}
 use Rattle.hop_rest.proofs.Comes as comes
 use Rattle.hop_rest.proofs.OnBytes as bytes
 use Rattle.hop_rest.proofs.Delivering as bytes-by-deliveries
@@ -14,6 +15,9 @@ use Rattle.hop_rest.proofs.Frame as frame
 use Rattle.hop_rest.proofs.Accepted as accepted
 use Rattle.hop_rest.proofs.Tails as tails
 use Rattle.hop_rest.proofs.Ends as ends
+use Rattle.hop_rest.proofs.Worth as worth
+use Rattle.hop_rest.proofs.Lines as lines
+use Rattle.hop_rest.proofs.WorthCall as worth-call
 
 -- ---- coming to rest, of states; of bytes by a run, and by single deliveries
 
@@ -66,3 +70,20 @@ make-reads-nothing = tails.nothing-read
 
 pub either-end-first : EitherEndFirst
 either-end-first = ends.ends-alike
+
+-- ---- what each link is worth
+
+pub every-line-tells : EveryLineTells
+every-line-tells = worth.line-tells
+
+pub every-line-fits : EveryLineFits
+every-line-fits = worth.line-fits
+
+pub every-pair-has-its-line : EveryPairHasItsLine
+every-pair-has-its-line = lines.pairs-have-lines
+
+pub every-worth-tells : EveryWorthTells
+every-worth-tells = worth-call.worth-tells
+
+pub worth-tail-unread : WorthTailUnread
+worth-tail-unread = worth-call.worth-tail-unread
