@@ -3,7 +3,7 @@ use mathlib.Core.Path.{_≡_, refl}
 use mathlib.Core.List.{List, [], _∷_, _++_, map}
 use Prim.Native.Nat.{ℕ}
 use lib.IntN.{ℤ, pos, negsuc}
-use lib.ListN.{replicate}
+use lib.ListN.{replicate, take}
 use Rattle.hop_rule.specs.Words.{loop, sum, listed, joined, every, first}
 use Rattle.hop_rule.specs.State.{State}
 use Rattle.hop_rule.specs.Rule.{least, distanceOf, downstreamOf, send, recompute, hear, deliver, linkUp, cut, recomputeAll, linkDown, pass, total, passes, made, delivered, fresh}
@@ -83,9 +83,9 @@ pub call-holds : called (two ++ 9 ∷ []) 43 9
 unfolding called two rested linked worth worthDone worthRefusals judge written isSoundAs isSound triples pairs each differ waits readAs deep flat nodes start stored block valueAt destinationAt cube grid size numbers lines line change hops lost trial trialPasses turned fresh delivered made passes total pass linkDown recomputeAll cut linkUp deliver hear recompute send downstreamOf distanceOf least first every joined listed sum loop
 call-holds = refl
 
--- An empty buffer 2, a node count 1, a short state 2, an unsound one 3, all of them before 12; 12 before a short trial buffer 2 or a short list 2; and a refusal leaves both.
+-- An empty buffer 2, a node count 1, a short state 2, an unsound one 3: entries wait in the last two, and 12 comes after. It comes before a short trial buffer 2 or a short list 2; and a refusal leaves both.
 pub refusals-hold :
-    (number [] 0 0 ∷ number (0 ∷ []) 0 0 ∷ number (2 ∷ []) 0 0 ∷ number (2 ∷ replicate 40 0) 0 0 ∷ number waiting 0 0 ∷ number two 40 7 ∷ number two 41 6 ∷ number two 41 7 ∷ []
+    (number [] 0 0 ∷ number (0 ∷ []) 0 0 ∷ number (take 40 waiting) 0 0 ∷ number (2 ∷ replicate 40 1) 0 0 ∷ number waiting 0 0 ∷ number two 40 7 ∷ number two 41 6 ∷ number two 41 7 ∷ []
     ≡ 2 ∷ 1 ∷ 2 ∷ 3 ∷ 12 ∷ 2 ∷ 2 ∷ 0 ∷ [])
     × (called waiting 41 7 ≡ record { number = 12; answers = []; trial = replicate 41 7; list = replicate 7 (pos 5) })
 unfolding number called two waiting rested linked worth worthDone worthRefusals judge written isSoundAs isSound triples pairs each differ waits readAs deep flat nodes start stored block valueAt destinationAt cube grid size numbers lines line change hops lost trial trialPasses turned fresh delivered made passes total pass linkDown recomputeAll cut linkUp deliver hear recompute send downstreamOf distanceOf least first every joined listed sum loop
