@@ -1,16 +1,18 @@
 -- R-1's sums over two tables of distances: what they depend on, how they compare, and how large they are. Assumes nothing.
-use mathlib.Core.Path.{_≡_, refl}
+use mathlib.Core.Path.{_≡_, refl, sym}
+use mathlib.Core.Logic.{_⊎_, inl, inr}
 use mathlib.Core.Bool.{Bool, true, false, cond, not, _&&_}
 use Prim.Native.Nat.{ℕ, zero, suc, zero-le, _+_, _*_, _-_, _≤_, _<_}
-use native.Mathlib.Nat.{le-refl}
+use native.Mathlib.Nat.{le-refl, le-trans, le-of-eq}
+use native.Mathlib.Decide.{decLt}
 use native.Mathlib.Omega.{arith}
-use lib.Dec.{ltb, le→leb}
+use lib.Dec.{ltb, le→leb, lt→ltb}
 use lib.IntN.{ℤ, pos, natAbs, _-ℤ_}
-use lib.Signed.{_≤ℤ_, leZ-yes}
-use borrow.Author.Tests.{le-ltb}
+use lib.Signed.{_≤ℤ_, _<ℤ_, leZ-yes, ltZ-yes}
+use borrow.Author.Tests.{lt-ltb, le-ltb}
 use Rattle.hop_rule.specs.Worth.{routed, over, lost, hops, change}
-use Rattle.hop_laws.proofs.Tests.{Tells, tells-lt, tells-not, tells-and, tells-not-so, choose-else}
-use Rattle.hop_laws.proofs.Words.{sum-same, sum-less, sum-most, sum-zero}
+use Rattle.hop_laws.proofs.Tests.{Tells, tells-lt, tells-not, tells-and, tells-not-so, choose-so, choose-else}
+use Rattle.hop_laws.proofs.Words.{sum-same, sum-less, sum-below, sum-at, sum-most, sum-zero}
 use Rattle.hop_rest.specs.Worth.{parted}
 
 -- ---- sums over ordered pairs
@@ -22,9 +24,16 @@ module _ (n : ℕ) (f g : ℕ → ℕ → ℕ) where
   over-less : ((u v : ℕ) → u < n → v < n → f u v ≤ g u v) → over n f ≤ over n g
   over-less h = sum-less n _ _ (λ u lu. sum-less n _ _ (λ v lv. h u v lu lv))
 
+  -- One pair with less, and none with more, is enough.
+  over-below : ((u v : ℕ) → u < n → v < n → f u v ≤ g u v) → (u v : ℕ) → u < n → v < n → f u v < g u v → over n f < over n g
+  over-below h u v lu lv b = sum-below n _ _ (λ x lx. sum-less n _ _ (λ y ly. h x y lx ly)) u lu (sum-below n _ _ (λ y ly. h u y lu ly) v lv b)
+
 module _ (n : ℕ) (f : ℕ → ℕ → ℕ) where
   over-most : (c : ℕ) → ((u v : ℕ) → f u v ≤ c) → over n f ≤ n * n * c
   over-most c h = let all : over n f ≤ n * (n * c) = sum-most n (n * c) _ (λ u lu. sum-most n c _ (λ v lv. h u v)) in omega (arith, all)
+
+  over-at : (u v : ℕ) → u < n → v < n → f u v ≤ over n f
+  over-at u v lu lv = le-trans (sum-at n (f u) v lv) (sum-at n _ u lu)
 
   over-zero : ((u v : ℕ) → u < n → v < n → f u v ≡ 0) → over n f ≡ 0
   over-zero h = sum-zero n _ (λ u lu. sum-zero n _ (λ v lv. h u v lu lv))
@@ -39,6 +48,9 @@ cond-less {b = false} s t f x y l = zero-le
 cond-less {b = true} {c = true} s t f x y l = l
 cond-less {b = true} {c = false} s t f x y l = absurd (tells-not-so t refl (f (s .shows refl)))
 
+cond-below : {b c : Bool} {P Q : Type 0} → Tells b P → Tells c Q → P → Q → (x y : ℕ) → x < y → cond b x 0 < cond c y 0
+cond-below s t p q x y l = rw (choose-so s x 0 p, choose-so t y 0 q) l
+
 -- ---- a difference of two sums
 
 either : (P : ℤ → Type 0) (b : Bool) {x y : ℤ} → P x → P y → P (cond b x y)
@@ -52,6 +64,14 @@ difference-not-below a (suc b) l = rw (le-ltb a (suc b) l) (leZ-yes (le→leb 0 
 pub difference-not-above : (a b : ℕ) → a ≤ b → (pos a -ℤ pos b) ≤ℤ pos 0
 difference-not-above a zero l = leZ-yes (le→leb (a + 0) 0 (omega arith))
 difference-not-above a (suc b) l = either (λ z. z ≤ℤ pos 0) (ltb a (suc b)) (leZ-yes tt) (leZ-yes (le→leb (a - suc b) 0 (omega arith)))
+
+difference-above : (a b : ℕ) → b < a → pos 0 <ℤ (pos a -ℤ pos b)
+difference-above a zero l = ltZ-yes (lt→ltb 0 (a + 0) (omega arith))
+difference-above a (suc b) l = rw (le-ltb a (suc b) (omega arith)) (ltZ-yes (lt→ltb 0 (a - suc b) (omega arith)))
+
+difference-below : (a b : ℕ) → a < b → (pos a -ℤ pos b) <ℤ pos 0
+difference-below a zero l = absurd (omega arith)
+difference-below a (suc b) l = rw (lt-ltb a (suc b) l) (ltZ-yes tt)
 
 difference-most : (a b c : ℕ) → a ≤ c → b ≤ c → natAbs (pos a -ℤ pos b) ≤ c
 difference-most a zero c l k = omega arith
@@ -100,9 +120,22 @@ module _ (n : ℕ) (d e : ℕ → ℕ → ℕ) where
   unfolding lost
   lost-none h = over-zero n _ (λ u v lu lv. choose-else (tells-lost n d e u v) _ _ (λ p. p .1 (omega (arith, h u v lu lv, p .0))))
 
+  -- What a pair adds to the hops.
+  pair-less : NoLarger n d e → (u v : ℕ) → u < n → v < n → cond (routed n e u v && routed n d u v) (e u v) 0 ≤ cond (routed n d u v && routed n e u v) (d u v) 0
+  pair-less h u v lu lv = cond-less (tells-both n e d u v) (tells-both n d e u v) (λ p. (p .1, p .0)) _ _ (h u v lu lv)
+
   pub hops-less : NoLarger n d e → hops n e d ≤ hops n d e
   unfolding hops
-  hops-less h = over-less n _ _ (λ u v lu lv. cond-less (tells-both n e d u v) (tells-both n d e u v) (λ p. (p .1, p .0)) _ _ (h u v lu lv))
+  hops-less h = over-less n _ _ (pair-less h)
+
+  -- One number smaller, of a route: it was none before, or all hops together are fewer.
+  pub smaller-shows : NoLarger n d e → (u v : ℕ) → u < n → v < n → e u v < n → e u v < d u v → (0 < lost n e d) ⊎ (hops n e d < hops n d e)
+  unfolding lost hops
+  smaller-shows h u v lu lv l b = go (decLt (d u v) n)
+    where
+      go : Dec (d u v < n) → (0 < lost n e d) ⊎ (hops n e d < hops n d e)
+      go (yes r) = inr (over-below n _ _ (pair-less h) u v lu lv (cond-below (tells-both n e d u v) (tells-both n d e u v) (l, r) (r, l) _ _ b))
+      go (no f) = inl (le-trans (le-of-eq (sym (choose-so (tells-lost n e d u v) 1 0 (l, f)))) (over-at n _ u v lu lv))
 
 module _ (n : ℕ) (d e : ℕ → ℕ → ℕ) where
   pub change-same : (d′ e′ : ℕ → ℕ → ℕ) → Agree n d d′ → Agree n e e′ → change n d e ≡ change n d′ e′
@@ -121,3 +154,12 @@ module _ (n : ℕ) (d e : ℕ → ℕ → ℕ) where
   pub change-not-below : NoLarger n d e → pos 0 ≤ℤ change n e d
   unfolding change
   change-not-below h = difference-not-below (hops n d e) (hops n e d) (hops-less n d e h)
+
+  -- Fewer hops are a change below zero, and more one above.
+  pub change-below : hops n e d < hops n d e → change n d e <ℤ pos 0
+  unfolding change
+  change-below l = difference-below (hops n e d) (hops n d e) l
+
+  pub change-above : hops n d e < hops n e d → pos 0 <ℤ change n d e
+  unfolding change
+  change-above l = difference-above (hops n e d) (hops n d e) l

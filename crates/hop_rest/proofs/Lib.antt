@@ -17,6 +17,7 @@ pub mod Tails
 pub mod Ends
 pub mod Comes
 pub mod Changes
+pub mod Bridges
 pub mod Worth
 pub mod Lines
 pub mod WorthCall

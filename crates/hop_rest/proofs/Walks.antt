@@ -1,6 +1,6 @@
 -- Laws of walks: how one begins, that a pair has one hop count, which no further link makes larger, and that whatever falls by at most one at each link is below n where a walk leads. Assumes nothing.
-use mathlib.Core.Path.{_≡_, refl, sym, _∙_}
-use mathlib.Core.Logic.{_⊎_, inl, inr}
+use mathlib.Core.Path.{_≡_, refl, sym, subst, _∙_}
+use mathlib.Core.Logic.{_⊎_, inl, inr, _≢_}
 use Prim.Native.Nat.{ℕ, suc, _≤_, _<_}
 use native.Mathlib.Decide.{ℕ-discrete, decLt}
 use native.Mathlib.Omega.{arith}
@@ -29,6 +29,23 @@ hop-count-same {d = d} {e = e} (joined b p l) (joined b′ p′ l′) = omega (a
 hop-count-same {d = d} (joined b p l) (apart i f) = absurd (f d p)
 hop-count-same {e = e} (apart i f) (joined b p l) = absurd (f e p)
 hop-count-same (apart i f) (apart j g) = i ∙ sym j
+
+-- With a link two nodes are at most one hop apart; without one, two that differ are further.
+pub hop-count-linked : {s : State} {u v d : ℕ} → u < s .n → v < s .n → s .link u v ≡ 1 → HopCount s u v d → d ≤ 1
+hop-count-linked lu lv q (joined b p l) = l 1 (hop lu lv q here)
+hop-count-linked lu lv q (apart i f) = absurd (f 1 (hop lu lv q here))
+
+pub hop-count-unlinked : {s : State} {u v d : ℕ} → 1 < s .n → u ≢ v → s .link u v ≢ 1 → HopCount s u v d → 1 < d
+hop-count-unlinked l f g (apart i h) = omega arith
+hop-count-unlinked {s} {u} {v} {d} l f g (joined b p m) = first (walk-begins p)
+  where
+    second : (r : Begins s u v d) → (r .next ≡ v) ⊎ Begins s (r .next) v (r .left) → 1 < d
+    second r (inl e) = absurd (g (subst (λ w. s .link u w ≡ 1) e (r .linked)))
+    second r (inr k) = omega (arith, r .one-more, k .one-more)
+
+    first : (u ≡ v) ⊎ Begins s u v d → 1 < d
+    first (inl e) = absurd (f e)
+    first (inr r) = second r (walk-begins (r .walk))
 
 -- More links: every up link of s is up in t.
 pub record More (s t : State) : Type 0 where

@@ -11,19 +11,20 @@ use Rattle.hop_rule.specs.State.{State}
 use Rattle.hop_rule.specs.Rule.{recompute, linkUp, cut, recomputeAll, linkDown, total}
 use Rattle.hop_rule.specs.Sound.{Sound}
 use Rattle.hop_rule.specs.Worth.{turned, trialPasses, trial, routed, line}
-use Rattle.hop_laws.proofs.Tests.{tells-eq, tells-same, decides, choose-so, choose-else}
+use Rattle.hop_laws.proofs.Tests.{tells-eq, tells-same, choose-so, choose-else}
 use Rattle.hop_laws.proofs.Words.{loop-keeps}
-use Rattle.hop_laws.proofs.Rule.{Between, tells-between, Both, up-link, cut-link}
+use Rattle.hop_laws.proofs.Rule.{Both, up-link, cut-link}
 use Rattle.hop_rest.specs.Walks.{HopCount}
 use Rattle.hop_rest.specs.Rest.{AtRest, ComesToRest, Settled}
 use Rattle.hop_rest.specs.Worth.{HopCounts, Joins, LineTells, EveryLineFits}
 use Rattle.hop_rest.proofs.Kept.{down-keeps-sound, up-keeps-sound}
 use Rattle.hop_rest.proofs.Same.{down-n}
-use Rattle.hop_rest.proofs.Walks.{hop-count-same, More, hop-count-more, hop-count-tells}
+use Rattle.hop_rest.proofs.Walks.{hop-count-same, hop-count-tells}
 use Rattle.hop_rest.proofs.Right.{over-self}
 use Rattle.hop_rest.proofs.Rest.{rest-hop-count}
 use Rattle.hop_rest.proofs.Comes.{comes-to-rest}
-use Rattle.hop_rest.proofs.Changes.{Agree, NoLarger, lost-parted, lost-most, lost-none, change-same, change-most, change-not-above, change-not-below}
+use Rattle.hop_rest.proofs.Changes.{Agree, NoLarger, lost-parted, lost-most, lost-none, change-same, change-most, change-not-above, change-not-below, change-above, change-below}
+use Rattle.hop_rest.proofs.Bridges.{Adds, no-larger, link-shows}
 
 -- ---- the turned state
 
@@ -138,26 +139,32 @@ module _ (s : State) (o : Sound s) (rest : AtRest s) (few : s .n ≤ 255) (a b :
   after-routed : (j : ℕ → ℕ → Bool) → Joins (turned s a b) j → (u v : ℕ) → u < s .n → v < s .n → routed (s .n) after u v ≡ j u v
   after-routed j h u v lu lv = joins-routed h (rw nodes lu) (rw nodes lv) (s .n) nodes (after-counts u v lu lv)
 
-  -- One of the two has more links.
-  away-more : s .link a b ≡ 1 → More (turned s a b) s
-  away-more q = record { nodes = sym nodes; links = λ x y lx ly k. was x y k (decides (tells-between a b x y)) }
-    where
-      was : (x y : ℕ) → turned s a b .link x y ≡ 1 → Dec (Between a b x y) → s .link x y ≡ 1
-      was x y k (yes h) = absurd (omega (arith, turned-link s a b bit x y .at h))
-      was x y k (no f) = sym (turned-link s a b bit x y .other f) ∙ k
+  -- One of the two has the link besides.
+  away-adds : s .link a b ≡ 1 → Adds (s .n) (turned s a b) s a b
+  away-adds q = record {
+    nodes = nodes;
+    nodes-too = refl;
+    ascends = ascends;
+    inside = inside;
+    links = λ x y. record { at = λ h. elim h [ inl p ↦ rw (p .0, p .1) q | inr p ↦ rw (p .0, p .1) (o .symmetric b a inside (omega arith) ∙ q) ]; other = λ f. sym (turned-link s a b bit x y .other f) };
+    unlinked = λ e. omega (arith, q, turned-link s a b bit a b .at (inl (refl, refl)));
+  }
 
-  added-more : s .link a b ≢ 1 → More s (turned s a b)
-  added-more f = record { nodes = nodes; links = λ x y lx ly k. still x y k (decides (tells-between a b x y)) }
-    where
-      still : (x y : ℕ) → s .link x y ≡ 1 → Dec (Between a b x y) → turned s a b .link x y ≡ 1
-      still x y k (yes h) = omega (arith, f, bit, turned-link s a b bit x y .at h)
-      still x y k (no g) = turned-link s a b bit x y .other g ∙ k
+  added-adds : s .link a b ≢ 1 → Adds (s .n) s (turned s a b) a b
+  added-adds f = record {
+    nodes = refl;
+    nodes-too = nodes;
+    ascends = ascends;
+    inside = inside;
+    links = λ x y. record { at = λ h. omega (arith, f, bit, turned-link s a b bit x y .at h); other = turned-link s a b bit x y .other };
+    unlinked = f;
+  }
 
   away-no-larger : s .link a b ≡ 1 → NoLarger (s .n) after (s .distance)
-  away-no-larger q u v lu lv = hop-count-more (away-more q) (after-counts u v lu lv) (before-counts u v lu lv)
+  away-no-larger q = no-larger (away-adds q) after-counts before-counts
 
   added-no-larger : s .link a b ≢ 1 → NoLarger (s .n) (s .distance) after
-  added-no-larger f u v lu lv = hop-count-more (added-more f) (before-counts u v lu lv) (after-counts u v lu lv)
+  added-no-larger f = no-larger (added-adds f) before-counts after-counts
 
   pub line-tells : LineTells s a b
   unfolding line
@@ -176,4 +183,6 @@ module _ (s : State) (o : Sound s) (rest : AtRest s) (few : s .n ≤ 255) (a b :
     away-change = λ q. change-not-below (s .n) after (s .distance) (away-no-larger q);
     added-lost = λ f. lost-none (s .n) (s .distance) after (added-no-larger f);
     added-change = λ f. change-not-above (s .n) (s .distance) after (added-no-larger f);
+    away-shows = λ q. elim (link-shows (away-adds q) after-counts before-counts) [ inl l ↦ inl l | inr l ↦ inr (change-above (s .n) (s .distance) after l) ];
+    added-shows = λ f. elim (link-shows (added-adds f) before-counts after-counts) [ inl l ↦ inl l | inr l ↦ inr (change-below (s .n) (s .distance) after l) ];
   }

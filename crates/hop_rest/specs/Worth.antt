@@ -1,12 +1,12 @@
 -- Why a planner may believe R-1's lines: of every state that is sound and at rest, their numbers are about true hop counts before and after, and no pair is left out. Uses Walks, Rest, Accepted and hop_rule's Worth.
 use mathlib.Core.Path.{_≡_}
-use mathlib.Core.Logic.{_≢_}
+use mathlib.Core.Logic.{_⊎_, _≢_}
 use mathlib.Core.Bool.{Bool, true, not, _&&_}
 use mathlib.Core.List.{List, _∷_, _++_}
 use Prim.Native.Nat.{ℕ, _+_, _*_, _-_, _≤_, _<_}
 use lib.IntN.{ℤ, pos, natAbs}
 use lib.ListN.{length}
-use lib.Signed.{_≤ℤ_}
+use lib.Signed.{_≤ℤ_, _<ℤ_}
 use Rattle.hop_rule.specs.Words.{if_then_else_, sum}
 use Rattle.hop_rule.specs.State.{State}
 use Rattle.hop_rule.specs.Sound.{Sound}
@@ -52,6 +52,9 @@ pub record LineTells (s : State) (a b : ℕ) : Type 0 where
   -- adding one loses nothing, and the change is not above zero.
   pub added-lost : s .link a b ≢ 1 → line s a b .lost ≡ 0
   pub added-change : s .link a b ≢ 1 → line s a b .change ≤ℤ pos 0
+  -- No line says nothing, so that each shows whether the link was up.
+  pub away-shows : s .link a b ≡ 1 → (0 < line s a b .lost) ⊎ (pos 0 <ℤ line s a b .change)
+  pub added-shows : s .link a b ≢ 1 → (0 < line s a b .gained) ⊎ (line s a b .change <ℤ pos 0)
 
 -- 255 passes are enough for every n up to 255.
 abbrev pub EveryLineTells : Type 0
