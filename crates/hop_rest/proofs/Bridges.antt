@@ -1,15 +1,16 @@
--- One link more, as R-1 tries it: t has the links of s and that of a and b besides. No hop count is larger in t, and that of a and b is smaller. Assumes nothing.
-use mathlib.Core.Path.{_≡_, refl, sym, _∙_}
-use mathlib.Core.Logic.{_⊎_, inl, _≢_}
-use Prim.Native.Nat.{ℕ, _<_}
+-- One link more, as R-1 tries it: t has the links of s and that of a and b besides. No hop count is larger in t, and that of a and b is smaller. Where s joins a and b, it joins all that t joins, going round; where it does not, the link shortens no route of s. Assumes nothing.
+use mathlib.Core.Path.{_≡_, refl, sym, subst, _∙_}
+use mathlib.Core.Logic.{_⊎_, inl, inr, _≢_}
+use Prim.Native.Nat.{ℕ, suc, _≤_, _<_}
+use native.Mathlib.Nat.{le-refl}
 use native.Mathlib.Omega.{arith}
 use Rattle.hop_rule.specs.State.{State}
 use Rattle.hop_rule.specs.Worth.{lost, hops}
 use Rattle.hop_laws.proofs.Tests.{decides}
 use Rattle.hop_laws.proofs.Rule.{Between, tells-between, Both}
-use Rattle.hop_rest.specs.Walks.{HopCount}
-use Rattle.hop_rest.proofs.Walks.{More, hop-count-more, hop-count-linked, hop-count-unlinked}
-use Rattle.hop_rest.proofs.Changes.{NoLarger, smaller-shows}
+use Rattle.hop_rest.specs.Walks.{Walk, here, hop, HopCount, joined, apart}
+use Rattle.hop_rest.proofs.Walks.{Reaches, reaches-on, reaches-back, More, hop-count-more, hop-count-tells, hop-count-linked, hop-count-unlinked}
+use Rattle.hop_rest.proofs.Changes.{NoLarger, no-longer, lost-none, hops-less, smaller-shows}
 
 -- Over n nodes t has the link of a and b, s has not, and all others are the same.
 pub record Adds (n : ℕ) (s t : State) (a b : ℕ) : Type 0 where
@@ -19,6 +20,7 @@ pub record Adds (n : ℕ) (s t : State) (a b : ℕ) : Type 0 where
   pub inside : b < n
   pub links : (x y : ℕ) → Both a b x y (t .link x y) 1 (s .link x y)
   pub unlinked : s .link a b ≢ 1
+  pub symmetric : (x y : ℕ) → x < s .n → y < s .n → s .link x y ≡ s .link y x
 
 module _ {n : ℕ} {s t : State} {a b : ℕ} (adds : Adds n s t a b) where
   more : More s t
@@ -27,6 +29,89 @@ module _ {n : ℕ} {s t : State} {a b : ℕ} (adds : Adds n s t a b) where
       still : (x y : ℕ) → s .link x y ≡ 1 → Dec (Between a b x y) → t .link x y ≡ 1
       still x y q (yes h) = adds .links x y .at h
       still x y q (no f) = adds .links x y .other f ∙ q
+
+  -- ---- walks of t, seen from s
+
+  -- In s, y is at most d hops from x.
+  abbrev Within : ℕ → ℕ → ℕ → Type 0
+  Within x y d = (c : ℕ) × (c ≤ d) × Walk s x y c
+
+  -- The link is crossed from p to q: in s, x reaches p, and y is at most d hops from q.
+  record Crosses (x y d : ℕ) : Type 0 where
+    p : ℕ
+    q : ℕ
+    ends : Between a b p q
+    out : Reaches s x p
+    on : Within q y d
+
+  -- Two crossings end at the same node, or one where the other begins.
+  ends-meet : {x w p q : ℕ} → Between a b x w → Between a b p q → (q ≡ w) ⊎ (q ≡ x)
+  ends-meet (inl i) (inl k) = inl (k .1 ∙ sym (i .1))
+  ends-meet (inl i) (inr k) = inr (k .1 ∙ sym (i .0))
+  ends-meet (inr i) (inl k) = inr (k .1 ∙ sym (i .0))
+  ends-meet (inr i) (inr k) = inl (k .1 ∙ sym (i .1))
+
+  -- A walk of t needs the link at most once: between two crossings it can be left out.
+  crossing : {x y d : ℕ} → Walk t x y d → Within x y d ⊎ Crosses x y d
+  crossing here = inl (0, le-refl _, here)
+  crossing (hop {u = x} {w = w} {v = y} {d = d} lx lw k rest) = step (decides (tells-between a b x w)) (crossing rest)
+    where
+      stay : (Between a b x w → ⊥) → {v c : ℕ} → Walk s w v c → Walk s x v (suc c)
+      stay f r = hop {u = x} {w = w} (omega (arith, adds .nodes, adds .nodes-too)) (omega (arith, adds .nodes, adds .nodes-too)) (sym (adds .links x w .other f) ∙ k) r
+
+      cross : Between a b x w → Within w y d → Crosses x y (suc d)
+      cross h (c, l, r) = record { p = x; q = w; ends = h; out = (0, here); on = (c, omega arith, r) }
+
+      step : Dec (Between a b x w) → Within w y d ⊎ Crosses w y d → Within x y (suc d) ⊎ Crosses x y (suc d)
+      step (no f) (inl (c, l, r)) = inl (suc c, omega arith, stay f r)
+      step (no f) (inr z) = let (c, l, r) = z .on in let (i, o) = z .out in inr (record { p = z .p; q = z .q; ends = z .ends; out = (suc i, stay f o); on = (c, omega arith, r) })
+      step (yes h) (inl r) = inr (cross h r)
+      step (yes h) (inr z) =
+          let (c, l, r) = z .on in
+          elim (ends-meet h (z .ends)) [ inl e ↦ inr (cross h (c, l, subst (λ v. Walk s v y c) e r)) | inr e ↦ inl (c, omega arith, subst (λ v. Walk s v y c) e r) ]
+
+  back : {x y : ℕ} → Reaches s x y → Reaches s y x
+  back (d, r) = reaches-back (adds .symmetric) r
+
+  on : {x y z : ℕ} → Reaches s x y → Reaches s y z → Reaches s x z
+  on (d, r) k = reaches-on r k
+
+  -- Where s joins a and b, it joins all that t joins, going round;
+  round : Reaches s a b → {x y d : ℕ} → Walk t x y d → Reaches s x y
+  round r w = go (crossing w)
+    where
+      either : {p q : ℕ} → Between a b p q → Reaches s p q
+      either (inl i) = rw (i .0, i .1) r
+      either (inr i) = rw (i .0, i .1) (back r)
+
+      go : {x y d : ℕ} → Within x y d ⊎ Crosses x y d → Reaches s x y
+      go (inl (c, l, k)) = (c, k)
+      go (inr z) = let (c, l, k) = z .on in on (z .out) (on (either (z .ends)) (c, k))
+
+  -- where it does not, the link shortens no walk between nodes that s joins: both its ends would be joined.
+  no-shorter : (Reaches s a b → ⊥) → {x y d : ℕ} → Reaches s x y → Walk t x y d → Within x y d
+  no-shorter f {x} {y} {d} r w = go (crossing w)
+    where
+      neither : {p q : ℕ} → Between a b p q → Reaches s p q → ⊥
+      neither (inl i) k = f (rw (i .0, i .1) at k)
+      neither (inr i) k = f (back (rw (i .0, i .1) at k))
+
+      go : Within x y d ⊎ Crosses x y d → Within x y d
+      go (inl k) = k
+      go (inr z) = let (c, l, k) = z .on in absurd (neither (z .ends) (on (back (z .out)) (on r (back (c, k)))))
+
+  -- The same of hop counts.
+  counted-too : Reaches s a b → {x y i j : ℕ} → HopCount s x y i → HopCount t x y j → j < n → i < n
+  counted-too r (joined l k m) h b = omega (arith, adds .nodes)
+  counted-too r (apart i f) (joined l k m) b = let (c, w) = round r k in absurd (f c w)
+  counted-too r (apart i f) (apart j g) b = absurd (omega (arith, adds .nodes-too))
+
+  counted-same : (Reaches s a b → ⊥) → {x y i j : ℕ} → HopCount s x y i → HopCount t x y j → i < n → j < n → i ≤ j
+  counted-same f {i = i} (joined l k m) (joined l′ k′ m′) b b′ = let (c, under, w) = no-shorter f (i, k) k′ in omega (arith, under, m c w)
+  counted-same f (joined l k m) (apart i g) b b′ = absurd (omega (arith, adds .nodes-too))
+  counted-same f (apart i g) h b b′ = absurd (omega (arith, adds .nodes))
+
+  -- ---- the tables of hop counts
 
   module _ {d e : ℕ → ℕ → ℕ} (counts : (u v : ℕ) → u < n → v < n → HopCount s u v (d u v)) (counts-too : (u v : ℕ) → u < n → v < n → HopCount t u v (e u v)) where
     pub no-larger : NoLarger n d e
@@ -39,4 +124,15 @@ module _ {n : ℕ} {s t : State} {a b : ℕ} (adds : Adds n s t a b) where
         let lb : b < n = adds .inside in
         let near = hop-count-linked (rw (adds .nodes-too) la) (rw (adds .nodes-too) lb) (adds .links a b .at (inl (refl, refl))) (counts-too a b la lb) in
         let far = hop-count-unlinked (omega (arith, adds .nodes)) (λ i. omega (arith, adds .ascends)) (adds .unlinked) (counts a b la lb) in
-        smaller-shows n d e no-larger a b la lb (omega (arith, near, adds .ascends)) (omega (arith, near, far))
+        smaller-shows n d e (no-longer no-larger) a b la lb (omega (arith, near, adds .ascends)) (omega (arith, near, far))
+
+    -- A link that joins pairs shortens no route.
+    pub never-both : lost n e d ≢ 0 → hops n e d ≡ hops n d e
+    never-both some = go (decides (hop-count-tells (counts a b (omega (arith, adds .ascends, adds .inside)) (adds .inside))))
+      where
+        go : Dec (Reaches s a b) → hops n e d ≡ hops n d e
+        go (yes r) = absurd (some (lost-none n e d (λ u v lu lv. counted-too r (counts u v lu lv) (counts-too u v lu lv))))
+        go (no f) =
+            let fewer = hops-less n d e (no-longer no-larger) in
+            let more = hops-less n e d (λ u v lu lv l k. counted-same f (counts u v lu lv) (counts-too u v lu lv) k l) in
+            omega (arith, fewer, more)

@@ -1,5 +1,5 @@
 -- R-1's sums over two tables of distances: what they depend on, how they compare, and how large they are. Assumes nothing.
-use mathlib.Core.Path.{_≡_, refl, sym}
+use mathlib.Core.Path.{_≡_, refl, sym, ap}
 use mathlib.Core.Logic.{_⊎_, inl, inr}
 use mathlib.Core.Bool.{Bool, true, false, cond, not, _&&_}
 use Prim.Native.Nat.{ℕ, zero, suc, zero-le, _+_, _*_, _-_, _≤_, _<_}
@@ -43,9 +43,9 @@ cond-most : {b : Bool} {P : Type 0} → Tells b P → (x c : ℕ) → (P → x �
 cond-most {b = true} t x c h = h (t .shows refl)
 cond-most {b = false} t x c h = zero-le
 
-cond-less : {b c : Bool} {P Q : Type 0} → Tells b P → Tells c Q → (P → Q) → (x y : ℕ) → x ≤ y → cond b x 0 ≤ cond c y 0
+cond-less : {b c : Bool} {P Q : Type 0} → Tells b P → Tells c Q → (P → Q) → (x y : ℕ) → (P → x ≤ y) → cond b x 0 ≤ cond c y 0
 cond-less {b = false} s t f x y l = zero-le
-cond-less {b = true} {c = true} s t f x y l = l
+cond-less {b = true} {c = true} s t f x y l = l (s .shows refl)
 cond-less {b = true} {c = false} s t f x y l = absurd (tells-not-so t refl (f (s .shows refl)))
 
 cond-below : {b c : Bool} {P Q : Type 0} → Tells b P → Tells c Q → P → Q → (x y : ℕ) → x < y → cond b x 0 < cond c y 0
@@ -73,6 +73,10 @@ difference-below : (a b : ℕ) → a < b → (pos a -ℤ pos b) <ℤ pos 0
 difference-below a zero l = absurd (omega arith)
 difference-below a (suc b) l = rw (lt-ltb a (suc b) l) (ltZ-yes tt)
 
+difference-none : (a b : ℕ) → a ≡ b → pos a -ℤ pos b ≡ pos 0
+difference-none a zero e = ap pos (omega arith)
+difference-none a (suc b) e = rw (le-ltb a (suc b) (omega arith)) (ap pos (omega arith))
+
 difference-most : (a b c : ℕ) → a ≤ c → b ≤ c → natAbs (pos a -ℤ pos b) ≤ c
 difference-most a zero c l k = omega arith
 difference-most a (suc b) c l k = either (λ z. natAbs z ≤ c) (ltb a (suc b)) (omega arith) (omega arith)
@@ -86,12 +90,24 @@ module _ (n : ℕ) (d e : ℕ → ℕ → ℕ) where
   tells-both : (u v : ℕ) → Tells (routed n d u v && routed n e u v) ((d u v < n) × (e u v < n))
   tells-both u v = tells-and (tells-lt (d u v) n) (tells-lt (e u v) n)
 
--- The tables d and e have the same numbers below n; e has none larger than d.
+-- The tables d and e have the same numbers below n; e has none larger than d, so that it has d's routes, and none that is longer.
 abbrev pub Agree : ℕ → (ℕ → ℕ → ℕ) → (ℕ → ℕ → ℕ) → Type 0
 Agree n d e = (u v : ℕ) → u < n → v < n → d u v ≡ e u v
 
 abbrev pub NoLarger : ℕ → (ℕ → ℕ → ℕ) → (ℕ → ℕ → ℕ) → Type 0
 NoLarger n d e = (u v : ℕ) → u < n → v < n → e u v ≤ d u v
+
+abbrev pub Keeps : ℕ → (ℕ → ℕ → ℕ) → (ℕ → ℕ → ℕ) → Type 0
+Keeps n d e = (u v : ℕ) → u < n → v < n → d u v < n → e u v < n
+
+abbrev pub NoLonger : ℕ → (ℕ → ℕ → ℕ) → (ℕ → ℕ → ℕ) → Type 0
+NoLonger n d e = (u v : ℕ) → u < n → v < n → d u v < n → e u v < n → e u v ≤ d u v
+
+pub keeps : {n : ℕ} {d e : ℕ → ℕ → ℕ} → NoLarger n d e → Keeps n d e
+keeps h u v lu lv l = omega (arith, h u v lu lv)
+
+pub no-longer : {n : ℕ} {d e : ℕ → ℕ → ℕ} → NoLarger n d e → NoLonger n d e
+no-longer h u v lu lv l k = h u v lu lv
 
 module _ (n : ℕ) (d e : ℕ → ℕ → ℕ) where
   -- Lost looks at the routes of both tables, and at nothing else.
@@ -116,20 +132,20 @@ module _ (n : ℕ) (d e : ℕ → ℕ → ℕ) where
   unfolding hops
   hops-most = over-most n _ n (λ u v. cond-most (tells-both n d e u v) (d u v) n (λ p. omega (arith, p .0)))
 
-  pub lost-none : NoLarger n d e → lost n d e ≡ 0
+  pub lost-none : Keeps n d e → lost n d e ≡ 0
   unfolding lost
-  lost-none h = over-zero n _ (λ u v lu lv. choose-else (tells-lost n d e u v) _ _ (λ p. p .1 (omega (arith, h u v lu lv, p .0))))
+  lost-none h = over-zero n _ (λ u v lu lv. choose-else (tells-lost n d e u v) _ _ (λ p. p .1 (h u v lu lv (p .0))))
 
   -- What a pair adds to the hops.
-  pair-less : NoLarger n d e → (u v : ℕ) → u < n → v < n → cond (routed n e u v && routed n d u v) (e u v) 0 ≤ cond (routed n d u v && routed n e u v) (d u v) 0
-  pair-less h u v lu lv = cond-less (tells-both n e d u v) (tells-both n d e u v) (λ p. (p .1, p .0)) _ _ (h u v lu lv)
+  pair-less : NoLonger n d e → (u v : ℕ) → u < n → v < n → cond (routed n e u v && routed n d u v) (e u v) 0 ≤ cond (routed n d u v && routed n e u v) (d u v) 0
+  pair-less h u v lu lv = cond-less (tells-both n e d u v) (tells-both n d e u v) (λ p. (p .1, p .0)) _ _ (λ p. h u v lu lv (p .1) (p .0))
 
-  pub hops-less : NoLarger n d e → hops n e d ≤ hops n d e
+  pub hops-less : NoLonger n d e → hops n e d ≤ hops n d e
   unfolding hops
   hops-less h = over-less n _ _ (pair-less h)
 
   -- One number smaller, of a route: it was none before, or all hops together are fewer.
-  pub smaller-shows : NoLarger n d e → (u v : ℕ) → u < n → v < n → e u v < n → e u v < d u v → (0 < lost n e d) ⊎ (hops n e d < hops n d e)
+  pub smaller-shows : NoLonger n d e → (u v : ℕ) → u < n → v < n → e u v < n → e u v < d u v → (0 < lost n e d) ⊎ (hops n e d < hops n d e)
   unfolding lost hops
   smaller-shows h u v lu lv l b = go (decLt (d u v) n)
     where
@@ -146,16 +162,16 @@ module _ (n : ℕ) (d e : ℕ → ℕ → ℕ) where
   unfolding change
   change-most = difference-most (hops n e d) (hops n d e) (n * n * n) (hops-most n e d) (hops-most n d e)
 
-  -- Where e is nowhere larger the change from d to e is not above zero, and back it is not below.
-  pub change-not-above : NoLarger n d e → change n d e ≤ℤ pos 0
+  -- Where e is nowhere longer the change from d to e is not above zero, and back it is not below.
+  pub change-not-above : NoLonger n d e → change n d e ≤ℤ pos 0
   unfolding change
   change-not-above h = difference-not-above (hops n e d) (hops n d e) (hops-less n d e h)
 
-  pub change-not-below : NoLarger n d e → pos 0 ≤ℤ change n e d
+  pub change-not-below : NoLonger n d e → pos 0 ≤ℤ change n e d
   unfolding change
   change-not-below h = difference-not-below (hops n d e) (hops n e d) (hops-less n d e h)
 
-  -- Fewer hops are a change below zero, and more one above.
+  -- Fewer hops are a change below zero, more one above, and as many none.
   pub change-below : hops n e d < hops n d e → change n d e <ℤ pos 0
   unfolding change
   change-below l = difference-below (hops n e d) (hops n d e) l
@@ -163,3 +179,7 @@ module _ (n : ℕ) (d e : ℕ → ℕ → ℕ) where
   pub change-above : hops n d e < hops n e d → pos 0 <ℤ change n d e
   unfolding change
   change-above l = difference-above (hops n e d) (hops n d e) l
+
+  pub change-none : hops n e d ≡ hops n d e → change n d e ≡ pos 0
+  unfolding change
+  change-none i = difference-none (hops n e d) (hops n d e) i

@@ -1,4 +1,4 @@
--- Laws of walks: how one begins, that a pair has one hop count, which no further link makes larger, and that whatever falls by at most one at each link is below n where a walk leads. Assumes nothing.
+-- Laws of walks: how one begins, that they can be put together and turned round, that a pair has one hop count, which no further link makes larger, and that whatever falls by at most one at each link is below n where a walk leads. Assumes nothing.
 use mathlib.Core.Path.{_≡_, refl, sym, subst, _∙_}
 use mathlib.Core.Logic.{_⊎_, inl, inr, _≢_}
 use Prim.Native.Nat.{ℕ, suc, _≤_, _<_}
@@ -22,6 +22,18 @@ pub record Begins (s : State) (u v d : ℕ) : Type 0 where
 pub walk-begins : {s : State} {u v d : ℕ} → Walk s u v d → (u ≡ v) ⊎ Begins s u v d
 walk-begins here = inl refl
 walk-begins (hop {w = w} {d = d} lu lw q p) = inr (record { next = w; left = d; below = lw; linked = q; walk = p; one-more = refl })
+
+-- Some walk leads from u to v. Walks can be put together, and turned round where links are up at both ends.
+abbrev pub Reaches : State → ℕ → ℕ → Type 0
+Reaches s u v = (d : ℕ) × Walk s u v d
+
+pub reaches-on : {s : State} {u w v d : ℕ} → Walk s u w d → Reaches s w v → Reaches s u v
+reaches-on here r = r
+reaches-on (hop lu lw q p) r = let (e, k) = reaches-on p r in (suc e, hop lu lw q k)
+
+pub reaches-back : {s : State} → ((x y : ℕ) → x < s .n → y < s .n → s .link x y ≡ s .link y x) → {u v d : ℕ} → Walk s u v d → Reaches s v u
+reaches-back m here = (0, here)
+reaches-back m (hop {u = u} {w = w} lu lw q p) = let (e, k) = reaches-back m p in reaches-on k (1, hop lw lu (m w u lw lu ∙ q) here)
 
 -- A pair has one hop count.
 pub hop-count-same : {s : State} {u v d e : ℕ} → HopCount s u v d → HopCount s u v e → d ≡ e
@@ -64,7 +76,7 @@ hop-count-more m (apart j g) (joined c q k) = omega (arith, m .nodes)
 hop-count-more m (apart j g) (apart i f) = omega (arith, m .nodes)
 
 -- A hop count is below n exactly where a walk joins the two.
-pub hop-count-tells : {s : State} {u v d : ℕ} → HopCount s u v d → Tells (ltb d (s .n)) ((e : ℕ) × Walk s u v e)
+pub hop-count-tells : {s : State} {u v d : ℕ} → HopCount s u v d → Tells (ltb d (s .n)) (Reaches s u v)
 hop-count-tells {s} {d = d} (joined b p l) = tells-as (λ k. (d, p)) (λ w. b) (tells-lt d (s .n))
 hop-count-tells {s} {d = d} (apart i f) = tells-as (λ k. absurd (omega arith)) (λ w. absurd (f (w .0) (w .1))) (tells-lt d (s .n))
 

@@ -1,4 +1,4 @@
--- R-1's lines: the turned state is sound, so that its trial comes to rest; every number fits; and before and after are the true hop counts, which more links do not make larger. Assumes nothing.
+-- R-1's lines: the turned state is sound, so that its trial comes to rest; every number fits; and before and after are the true hop counts of two states of which one has a link more. Assumes nothing.
 use mathlib.Core.Path.{_≡_, refl, sym, ap, subst, _∙_}
 use mathlib.Core.Logic.{inl, inr, _≢_}
 use mathlib.Core.Bool.{Bool}
@@ -10,7 +10,7 @@ use lib.Dec.{ltb}
 use Rattle.hop_rule.specs.State.{State}
 use Rattle.hop_rule.specs.Rule.{recompute, linkUp, cut, recomputeAll, linkDown, total}
 use Rattle.hop_rule.specs.Sound.{Sound}
-use Rattle.hop_rule.specs.Worth.{turned, trialPasses, trial, routed, line}
+use Rattle.hop_rule.specs.Worth.{turned, trialPasses, trial, routed, lost, gained, line}
 use Rattle.hop_laws.proofs.Tests.{tells-eq, tells-same, choose-so, choose-else}
 use Rattle.hop_laws.proofs.Words.{loop-keeps}
 use Rattle.hop_laws.proofs.Rule.{Both, up-link, cut-link}
@@ -23,8 +23,8 @@ use Rattle.hop_rest.proofs.Walks.{hop-count-same, hop-count-tells}
 use Rattle.hop_rest.proofs.Right.{over-self}
 use Rattle.hop_rest.proofs.Rest.{rest-hop-count}
 use Rattle.hop_rest.proofs.Comes.{comes-to-rest}
-use Rattle.hop_rest.proofs.Changes.{Agree, NoLarger, lost-parted, lost-most, lost-none, change-same, change-most, change-not-above, change-not-below, change-above, change-below}
-use Rattle.hop_rest.proofs.Bridges.{Adds, no-larger, link-shows}
+use Rattle.hop_rest.proofs.Changes.{Agree, NoLarger, keeps, no-longer, lost-parted, lost-most, lost-none, change-same, change-most, change-not-above, change-not-below, change-above, change-below, change-none}
+use Rattle.hop_rest.proofs.Bridges.{Adds, no-larger, link-shows, never-both}
 
 -- ---- the turned state
 
@@ -148,6 +148,7 @@ module _ (s : State) (o : Sound s) (rest : AtRest s) (few : s .n ≤ 255) (a b :
     inside = inside;
     links = λ x y. record { at = λ h. elim h [ inl p ↦ rw (p .0, p .1) q | inr p ↦ rw (p .0, p .1) (o .symmetric b a inside (omega arith) ∙ q) ]; other = λ f. sym (turned-link s a b bit x y .other f) };
     unlinked = λ e. omega (arith, q, turned-link s a b bit a b .at (inl (refl, refl)));
+    symmetric = turned-sound s a b o ascends inside .symmetric;
   }
 
   added-adds : s .link a b ≢ 1 → Adds (s .n) s (turned s a b) a b
@@ -158,6 +159,7 @@ module _ (s : State) (o : Sound s) (rest : AtRest s) (few : s .n ≤ 255) (a b :
     inside = inside;
     links = λ x y. record { at = λ h. omega (arith, f, bit, turned-link s a b bit x y .at h); other = turned-link s a b bit x y .other };
     unlinked = f;
+    symmetric = o .symmetric;
   }
 
   away-no-larger : s .link a b ≡ 1 → NoLarger (s .n) after (s .distance)
@@ -165,6 +167,12 @@ module _ (s : State) (o : Sound s) (rest : AtRest s) (few : s .n ≤ 255) (a b :
 
   added-no-larger : s .link a b ≢ 1 → NoLarger (s .n) (s .distance) after
   added-no-larger f = no-larger (added-adds f) before-counts after-counts
+
+  away-gains-none : s .link a b ≡ 1 → gained (s .n) (s .distance) after ≡ 0
+  away-gains-none q = lost-none (s .n) after (s .distance) (keeps (away-no-larger q))
+
+  added-loses-none : s .link a b ≢ 1 → lost (s .n) (s .distance) after ≡ 0
+  added-loses-none f = lost-none (s .n) (s .distance) after (keeps (added-no-larger f))
 
   pub line-tells : LineTells s a b
   unfolding line
@@ -179,10 +187,18 @@ module _ (s : State) (o : Sound s) (rest : AtRest s) (few : s .n ≤ 255) (a b :
     lost-true = λ j k h i. lost-parted (s .n) (s .distance) after j k (before-routed j h) (after-routed k i);
     gained-true = λ j k h i. lost-parted (s .n) after (s .distance) k j (after-routed k i) (before-routed j h);
     change-true = λ d e h i. change-same (s .n) (s .distance) after d e (before-agree d h) (after-agree e i);
-    away-gained = λ q. lost-none (s .n) after (s .distance) (away-no-larger q);
-    away-change = λ q. change-not-below (s .n) after (s .distance) (away-no-larger q);
-    added-lost = λ f. lost-none (s .n) (s .distance) after (added-no-larger f);
-    added-change = λ f. change-not-above (s .n) (s .distance) after (added-no-larger f);
+    away-gained = away-gains-none;
+    away-change = λ q. change-not-below (s .n) after (s .distance) (no-longer (away-no-larger q));
+    added-lost = added-loses-none;
+    added-change = λ f. change-not-above (s .n) (s .distance) after (no-longer (added-no-larger f));
     away-shows = λ q. elim (link-shows (away-adds q) after-counts before-counts) [ inl l ↦ inl l | inr l ↦ inr (change-above (s .n) (s .distance) after l) ];
     added-shows = λ f. elim (link-shows (added-adds f) before-counts after-counts) [ inl l ↦ inl l | inr l ↦ inr (change-below (s .n) (s .distance) after l) ];
+    lost-alone = λ some. elim (ℕ-discrete (s .link a b) 1) [
+      | yes q ↦ change-none (s .n) (s .distance) after (sym (never-both (away-adds q) after-counts before-counts some))
+      | no f ↦ absurd (some (added-loses-none f))
+    ];
+    gained-alone = λ some. elim (ℕ-discrete (s .link a b) 1) [
+      | yes q ↦ absurd (some (away-gains-none q))
+      | no f ↦ change-none (s .n) (s .distance) after (never-both (added-adds f) before-counts after-counts some)
+    ];
   }

@@ -55,6 +55,9 @@ pub record LineTells (s : State) (a b : ℕ) : Type 0 where
   -- No line says nothing, so that each shows whether the link was up.
   pub away-shows : s .link a b ≡ 1 → (0 < line s a b .lost) ⊎ (pos 0 <ℤ line s a b .change)
   pub added-shows : s .link a b ≢ 1 → (0 < line s a b .gained) ⊎ (line s a b .change <ℤ pos 0)
+  -- A link holds pairs together or shortens routes, and never both.
+  pub lost-alone : line s a b .lost ≢ 0 → line s a b .change ≡ pos 0
+  pub gained-alone : line s a b .gained ≢ 0 → line s a b .change ≡ pos 0
 
 -- 255 passes are enough for every n up to 255.
 abbrev pub EveryLineTells : Type 0
