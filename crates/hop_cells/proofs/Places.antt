@@ -111,7 +111,7 @@ pub inside : (n : ℕ) (t : Table) {i : ℕ} → i < cells n t → start n t + i
 inside n t h = omega (arith, ends-inside n t)
 
 -- Two blocks do not overlap.
-ends-before : (n : ℕ) (t t′ : Table) → rank t < rank t′ → start n t + cells n t ≤ start n t′
+pub ends-before : (n : ℕ) (t t′ : Table) → rank t < rank t′ → start n t + cells n t ≤ start n t′
 ends-before n t t′ h = rw (edge-ends n t, ← edge-starts n t′) (edge-ascends n h)
 
 pub apart : (n : ℕ) (t t′ : Table) {i j : ℕ} → rank t ≢ rank t′ → i < cells n t → j < cells n t′ → start n t + i ≢ start n t′ + j
