@@ -6,7 +6,7 @@ use Prim.Native.Nat.{ℕ, zero, suc, zero-le, _+_, _*_, _-_, _<_, _≤_}
 use native.Mathlib.Nat.{le-trans, mul-le-mul}
 use native.Mathlib.Omega.{arith}
 use lib.Dec.{ltb}
-use lib.IntN.{ℤ, pos, negsuc, negℤ, _+ℤ_, _-ℤ_, +ℤ-assoc, +ℤ-comm, negℤ-+ℤ}
+use lib.IntN.{ℤ, pos, negsuc, natAbs, negℤ, _+ℤ_, _-ℤ_, +ℤ-assoc, +ℤ-comm, negℤ-+ℤ}
 use lib.Signed.{mag}
 use mir.Syntax.{w32}
 use mir.Val.{SFits, toZ, ofZ}
@@ -69,6 +69,11 @@ diff-fits x (suc y) l k = record { sfits = either (λ z. mag z < 2147483648) (lt
 
 pub small : (x : ℕ) → x ≤ 64000 → toZ w32 x ≡ pos x
 small x l = toZ-ofZ w32 (pos x) (record { sfits = omega arith })
+
+-- A signed number that goes through 32 bits.
+pub signed-kept : (z : ℤ) → natAbs z ≤ 64000 → toZ w32 (ofZ w32 z) ≡ z
+signed-kept (pos k) l = toZ-ofZ w32 (pos k) (record { sfits = omega (arith, l) })
+signed-kept (negsuc k) l = toZ-ofZ w32 (negsuc k) (record { sfits = omega (arith, l) })
 
 and-back : (b c : Bool) → b && c ≡ c && b
 and-back true true = refl

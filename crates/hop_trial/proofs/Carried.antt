@@ -6,12 +6,11 @@ use Prim.Native.Nat.{ℕ, _+_, _*_, _-_, _≤_, _<_}
 use native.Mathlib.Nat.{le-trans}
 use native.Mathlib.Omega.{arith}
 use lib.Dec.{eqb, lit≤}
-use lib.IntN.{ℤ, pos, negsuc, natAbs}
+use lib.IntN.{ℤ}
 use lib.ListN.{length, getD, take, drop, length-append, length-drop, List·getD-append}
 use lib.Seq.{length-take-le, getD-take, getD-append-add, getD-drop, drop-append-le, drop-append-add, drop-drop}
 use mir.Syntax.{w32}
-use mir.Val.{SFits, toZ, ofZ}
-use mir.ValLaws.{toZ-ofZ}
+use mir.Val.{toZ, ofZ}
 use Rattle.hop_rule.specs.declared.Table.{Table}
 use Rattle.hop_rule.specs.declared.Table.the-variants.{Links, Distances, Downstreams, Views, Lengths, Destinations, Values}
 use Rattle.hop_rule.specs.State.{State}
@@ -27,6 +26,7 @@ use Rattle.hop_rest.proofs.Worth.{turned-sound, trial-settled, line-fits}
 use Rattle.hop_cells.specs.Cells.{Room, cells, get}
 use Rattle.hop_cells.proofs.Places.{rank, inside, ends-before}
 use Rattle.hop_steps.specs.Steps.{linkUp, linkDown}
+use Rattle.hop_changes.proofs.Sums.{signed-kept}
 use Rattle.hop_runs.specs.Runs as runs
 use Rattle.hop_runs.specs.declared.Ran.{Ran}
 use Rattle.hop_bridge.specs.Carries.{Filled, Carries, CarriesSound}
@@ -114,11 +114,7 @@ module _ {n : ℕ} {s x : List ℕ} (h : Copied n s x) (a b : ℕ) (ascends : a 
   -- The change, which goes through a signed number of 32 bits, is not cut.
   whole : toZ w32 (ofZ w32 (line .change)) ≡ line .change
   unfolding readAs
-  whole = toZ-ofZ w32 (line .change) (fits (line .change) (line-fits (read s) (h .fine .sound .state) (h .fine .most) a b ascends (omega (arith, h .claim)) .change-most))
-    where
-      fits : (z : ℤ) → natAbs z ≤ 64000 → SFits w32 z
-      fits (pos k) l = record { sfits = omega (arith, l) }
-      fits (negsuc k) l = record { sfits = omega (arith, l) }
+  whole = signed-kept (line .change) (line-fits (read s) (h .fine .sound .state) (h .fine .most) a b ascends (omega (arith, h .claim)) .change-most)
 
   tells : {ran : Ran} {lost gained : ℕ} {change : ℤ}
       → ran ≡ runs.ran n 255 (turned n a b x)
