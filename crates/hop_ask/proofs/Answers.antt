@@ -10,7 +10,8 @@ use Rattle.hop_ask.specs.declared.Answer.{Answer}
 use Rattle.hop_ask.specs.declared.Answer.the-variants.{Value, Refused}
 use Rattle.hop_ask.specs.Answers.{number, answers, asked}
 
-told : (a b : Answer) → number a ≡ number b → answers a ≡ answers b → a ≡ b
+-- Its number and its answers tell which it is.
+pub told : (a b : Answer) → number a ≡ number b → answers a ≡ answers b → a ≡ b
 told (Value x) (Value y) n l = ap Value (ap (λ xs. getD xs 0 0) l)
 told (Value x) (Refused c) n l = absurd (omega (arith, ap length l))
 told (Refused c) (Value x) n l = absurd (omega (arith, ap length l))

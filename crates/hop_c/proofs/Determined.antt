@@ -13,6 +13,7 @@ use Rattle.hop_laws.proofs.Calls.{done-answers}
 use Rattle.hop_records.proofs.Answers.{wrote-fixed}
 use Rattle.hop_core.proofs.Answers.{told-fixed, told-fixed-answer, passed-fixed, ran-fixed}
 use Rattle.hop_ask.proofs.Answers.{asked-fixed, asked-fixed-answer}
+use Rattle.hop_worth.proofs.Answers.{worth-fixed, never-refused-with-0}
 use Rattle.hop_c.specs.Determined.{Determined, DeterminedForC, NoneRefusedWith0}
 
 -- A contract that says what the answer is, and one that says so of the answer and of what is left.
@@ -36,6 +37,7 @@ determined = record {
   queue-length = λ s w u. asked-fixed-answer _ _ _;
   total-queued = λ s. asked-fixed-answer _ _ _;
   status = λ s out u. asked-fixed _ _;
+  worth = worth-fixed;
   write-event = λ out e. wrote-fixed _;
   write-kind = λ out kind first second. wrote-fixed _;
   numbers-of = λ e. is-fixed _;
@@ -57,6 +59,7 @@ determined-for-c = record {
   hop-queue-length = λ s w u. is-fixed _;
   hop-total-queued = λ s. is-fixed _;
   hop-status = λ s out u. both-fixed _ _;
+  hop-worth = λ s trial list a b l m p q. (p .0 ∙ sym (q .0), ap₂ (λ x y. (x, y)) (p .1 ∙ sym (q .1)) (p .2 ∙ sym (q .2)));
   hop-write-event = λ out kind first second. both-fixed _ _;
   hop-read-event = λ s p. both-fixed _ _;
 }
@@ -77,5 +80,6 @@ none-refused-with-0 = record {
   queue-length = λ s w u. has-answer (call.queueLength w u) s [] (omega arith) refl refl;
   total-queued = λ s. has-answer call.totalQueued s [] (omega arith) refl refl;
   status = λ s out left u. has-answer (call.status u) s out (omega arith) refl refl;
+  worth = never-refused-with-0;
   write-event = λ out left e. has-answer (call.writeEvent e) [] out (omega arith) refl refl;
 }

@@ -4,12 +4,14 @@ use mathlib.Core.Path.{_≡_}
 use mathlib.Core.Logic.{_≢_}
 use mathlib.Core.List.{List, []}
 use Prim.Native.Nat.{ℕ}
+use lib.IntN.{ℤ}
 use Rattle.hop_rule.specs.declared.Event.{Event}
 use Rattle.hop_rule.specs.declared.Reading.{Reading}
 use Rattle.hop_rule.specs.Records.{readEvent}
 use Rattle.hop_rule.specs.Calls as call
 use Rattle.hop_rule.specs.Calls.{outcome}
 use Rattle.hop_rule.specs.Fixed.{Fixed, FixedAnswer}
+use Rattle.hop_rule.specs.Worth.{worth}
 use Rattle.hop_records.specs.declared.Numbers.{Numbers}
 use Rattle.hop_records.specs.declared.Written.the-variants as answer-of-writing
 use Rattle.hop_records.specs.Writing.{Writes, numbersOf, wroteEvent}
@@ -18,8 +20,10 @@ use Rattle.hop_reader.specs.Stepping.{MadeAt, ReadsNext, stepAt}
 use Rattle.hop_core.specs.declared.PassAnswer.the-variants as answer-of-pass
 use Rattle.hop_core.specs.declared.RunAnswer.the-variants as answer-of-run
 use Rattle.hop_core.specs.Answers.{Told, Passed, Ran}
+use Rattle.hop_ask.specs.declared.Answer.{Answer}
 use Rattle.hop_ask.specs.declared.Answer.the-variants.{Refused}
 use Rattle.hop_ask.specs.Answers.{Asked, Wrote}
+use Rattle.hop_worth.specs.Answers.{Worth}
 use Rattle.hop_c.specs.declared.HopAnswer.{HopAnswer}
 use Rattle.hop_c.specs.Edge as edge
 use Rattle.hop_c.specs.Edge.{sizeOf, answer}
@@ -38,6 +42,8 @@ pub record Determined : Type 1 where
   pub queue-length : (s : List ℕ) (w u : ℕ) → FixedAnswer (Asked (call.queueLength w u) s)
   pub total-queued : (s : List ℕ) → FixedAnswer (Asked call.totalQueued s)
   pub status : (s out : List ℕ) (u : ℕ) → Fixed (Wrote (call.status u) s out)
+  -- of R-1's call, the trial buffer and the list are what is left
+  pub worth : (s trial : List ℕ) (list : List ℤ) → Fixed (λ (a : Answer) (left : List ℕ × List ℤ). Worth s trial list a (left .0) (left .1))
   pub write-event : (out : List ℕ) (e : Event) → Fixed (Writes (outcome (call.writeEvent e) [] out))
   pub write-kind : (out : List ℕ) (kind first second : ℕ) → Fixed (Writes (wroteEvent kind first second out))
   pub numbers-of : (e : Event) → FixedAnswer (λ (p : Numbers). p ≡ numbersOf e)
@@ -57,6 +63,7 @@ pub record DeterminedForC : Type 0 where
   pub hop-queue-length : (s : List ℕ) (w u : ℕ) → FixedAnswer (λ (a : HopAnswer). a ≡ answer (outcome (call.queueLength w u) s []))
   pub hop-total-queued : (s : List ℕ) → FixedAnswer (λ (a : HopAnswer). a ≡ answer (outcome call.totalQueued s []))
   pub hop-status : (s out : List ℕ) (u : ℕ) → Fixed (edge.Wrote (outcome (call.status u) s out))
+  pub hop-worth : (s trial : List ℕ) (list : List ℤ) → Fixed (λ (a : HopAnswer) (left : List ℕ × List ℤ). edge.Worth (worth s trial list) a (left .0) (left .1))
   pub hop-write-event : (out : List ℕ) (kind first second : ℕ) → Fixed (edge.Wrote (wroteEvent kind first second out))
   pub hop-read-event : (s : List ℕ) (p : ℕ) → Fixed (edge.Read s p)
 
@@ -69,4 +76,5 @@ pub record NoneRefusedWith0 : Type 0 where
   pub queue-length : (s : List ℕ) (w u : ℕ) → Asked (call.queueLength w u) s (Refused 0) → ⊥
   pub total-queued : (s : List ℕ) → Asked call.totalQueued s (Refused 0) → ⊥
   pub status : (s out left : List ℕ) (u : ℕ) → Wrote (call.status u) s out (Refused 0) left → ⊥
+  pub worth : (s trial x : List ℕ) (list l : List ℤ) → Worth s trial list (Refused 0) x l → ⊥
   pub write-event : (out left : List ℕ) (e : Event) → Writes (outcome (call.writeEvent e) [] out) (answer-of-writing.Refused 0) left → ⊥

@@ -1,13 +1,15 @@
--- What C callers get of a call's outcome: its number and its answers in a struct, a place for each. Answered, Ran, Wrote and Read are the contracts; the calls that answer a number alone have hop_core's Told.
+-- What C callers get of a call's outcome: its number and its answers in a struct, a place for each. Answered, Ran, Wrote, Worth and Read are the contracts; the calls that answer a number alone have hop_core's Told.
 use mathlib.Core.Path.{_≡_}
 use mathlib.Core.List.{List}
 use Prim.Native.Nat.{ℕ}
+use lib.IntN.{ℤ}
 use lib.ListN.{getD}
 use Rattle.hop_rule.specs.Words.{if_then_else_}
 use Rattle.hop_rule.specs.declared.Reading.{Reading}
 use Rattle.hop_rule.specs.Stored.{size}
 use Rattle.hop_rule.specs.Records.{numberOf, answersOf, readEvent, placeAfter}
 use Rattle.hop_rule.specs.Calls.{Outcome, badCount, answerAt}
+use Rattle.hop_rule.specs.Worth.{Valued}
 use Rattle.hop_c.specs.declared.HopAnswer.{HopAnswer}
 use Rattle.hop_c.specs.declared.HopRan.{HopRan}
 use Rattle.hop_c.specs.declared.HopEvent.{HopEvent}
@@ -32,6 +34,13 @@ Ran o a t = (a ≡ ran o) × (t ≡ o .bytes)
 
 abbrev pub Wrote : Outcome → HopAnswer → List ℕ → Type 0
 Wrote o a left = (a ≡ answer o) × (left ≡ o .output)
+
+-- The same for the result of R-1's call: the struct, the trial buffer and the list.
+abbrev pub valued : Valued → HopAnswer
+valued v = record { code = v .number; value = getD (v .answers) 0 0 }
+
+abbrev pub Worth : Valued → HopAnswer → List ℕ → List ℤ → Type 0
+Worth v a trial list = (a ≡ valued v) × (trial ≡ v .trial) × (list ≡ v .list)
 
 -- What was read, as a C caller gets it: the number, the kind and its two numbers; what there is not is 0, so kind 0 is the plain end or a refusal.
 abbrev pub event : ℕ → List ℕ → HopEvent

@@ -16,11 +16,12 @@ ghost use mathlib.Core.List.{[], _∷_};
 ghost use Rattle.hop_rule.specs.Calls as call;
 ghost use Rattle.hop_rule.specs.Calls.{outcome};
 ghost use Rattle.hop_rule.specs.Records.{kindOf, bodyOf};
+ghost use Rattle.hop_rule.specs.Worth as worth;
 ghost use Rattle.hop_core.specs.Answers as core;
 ghost use Rattle.hop_core.specs.Answers.{Told, passed};
 ghost use Rattle.hop_ask.specs.Answers.{asked};
 ghost use Rattle.hop_records.specs.Writing.{wrote, wroteEvent};
-ghost use Rattle.hop_c.specs.Edge.{sizeOf, answer, ran, Answered, Ran, Wrote, event, reading, Read};
+ghost use Rattle.hop_c.specs.Edge.{sizeOf, answer, ran, Answered, Ran, Wrote, Worth, event, reading, Read};
 
 // A number, and one answer.
 #[repr(C)]
@@ -214,6 +215,14 @@ pub extern "C" fn hop_total_queued(state: &[u8]) -> HopAnswer
     ensures { λ r. ⌜ r ≡ answer (outcome call.totalQueued (now (state .entry)) []) ⌝ }
 {
     plain_answer(hop_ask::total_queued(state))
+}
+
+// What each link is worth.
+#[no_mangle]
+pub extern "C" fn hop_worth(state: &[u8], trial: &mut [u8], lines: &mut [i32]) -> HopAnswer
+    ensures { λ r. ⌜ Worth (worth.worth (now (state .entry)) (now (trial .entry)) (now (lines .entry))) r (now (trial .exit)) (now (lines .exit)) ⌝ }
+{
+    plain_answer(hop_worth::worth(state, trial, lines))
 }
 
 // The records.

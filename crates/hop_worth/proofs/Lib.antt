@@ -1,3 +1,4 @@
 pub mod Lists
 pub mod Filling
 pub mod Called
+pub mod Answers
