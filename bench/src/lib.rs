@@ -5,3 +5,5 @@ mod equal;
 pub mod measure;
 pub mod rows;
 pub mod safe;
+#[cfg(test)]
+mod trials;

@@ -47,6 +47,15 @@ fn line(n: usize) -> Vec<u8> {
     with_links(n, (1..n).map(|b| (b - 1, b)))
 }
 
+fn ring(n: usize) -> Vec<u8> {
+    with_links(n, (0..n).map(|a| (a, (a + 1) % n)))
+}
+
+/// Four links a node: to the next and to the one after that, on both sides.
+fn four_links(n: usize) -> Vec<u8> {
+    with_links(n, (0..n).flat_map(|a| [(a, (a + 1) % n), (a, (a + 2) % n)]))
+}
+
 fn at_rest(mut state: Vec<u8>) -> Vec<u8> {
     assert_eq!(Safe.run(&mut state, 255).code, 0);
     state
@@ -92,6 +101,16 @@ pub fn rows(n: usize) -> Vec<Row> {
         row("status, all queues full", complete(n), Call::Status { node: last, room: 14 }),
     ]);
     rows
+}
+
+/// States at rest whose links' worth is asked for, by name.
+pub fn worths(n: usize) -> Vec<(&'static str, Vec<u8>)> {
+    vec![
+        ("worth, a line", at_rest(line(n))),
+        ("worth, a ring", at_rest(ring(n))),
+        ("worth, four links a node", at_rest(four_links(n))),
+        ("worth, all links", at_rest(complete(n))),
+    ]
 }
 
 /// Event records, one of each kind in turn.

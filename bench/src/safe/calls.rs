@@ -2,6 +2,7 @@
 
 use super::check::sound;
 use super::parts::{NONE, Parts, PartsMut, row, size};
+use super::worth::{LINE, pairs, try_all};
 use hop_harness::engine::{Answer, Engine, Ran, Read};
 
 /// The implementation that the core is timed against.
@@ -88,6 +89,17 @@ fn status(state: &[u8], node: usize, out: &mut [u8]) -> Judged<u32> {
     Ok(14)
 }
 
+fn worth(state: &[u8], trial: &mut [u8], lines: &mut [i32]) -> Judged<u32> {
+    let n = sound_state(state)?;
+    if Parts::of(state, n).lengths.iter().any(|&length| length != 0) {
+        return Err(12);
+    }
+    let trial = trial.get_mut(..size(n)).ok_or(2_u32)?;
+    let lines = lines.get_mut(..LINE * pairs(n)).ok_or(2_u32)?;
+    try_all(&state[..size(n)], n, trial, lines);
+    Ok(pairs(n) as u32)
+}
+
 // A record takes a few nanoseconds, and a call of the archive cannot be inlined: so the two for records are not either.
 #[inline(never)]
 fn write(kind: u32, first: u16, second: u16, out: &mut [u8]) -> Answer {
@@ -127,6 +139,12 @@ fn found(bytes: &[u8], place: &mut usize) -> Judged<Read> {
     let first = if numbers > 0 { number(4) } else { 0 };
     let second = if numbers > 1 { number(6) } else { 0 };
     Ok(Read { code: 0, kind, first, second })
+}
+
+impl Safe {
+    pub fn worth(&self, state: &[u8], trial: &mut [u8], lines: &mut [i32]) -> Answer {
+        one(worth(state, trial, lines))
+    }
 }
 
 impl Engine for Safe {

@@ -5,5 +5,6 @@ pub mod calls;
 mod check;
 pub mod parts;
 mod steps;
+mod worth;
 
 pub use calls::Safe;
