@@ -32,11 +32,19 @@ mod linked {
         fn hop_status(state: *const u8, len: usize, node: usize, out: *mut u8, out_len: usize) -> Answer;
         fn hop_write_event(kind: u32, first: u16, second: u16, out: *mut u8, out_len: usize) -> Answer;
         fn hop_read_event(bytes: *const u8, len: usize, place: *mut usize) -> Read;
+        fn hop_worth(
+            state: *const u8,
+            len: usize,
+            trial: *mut u8,
+            trial_len: usize,
+            lines: *mut i32,
+            lines_len: usize,
+        ) -> Answer;
     }
 
     pub struct Core;
 
-    // Each call is lent whole slices for its own time, and the borrows keep a state and an output apart.
+    // Each call is lent whole slices for its own time, and the borrows keep state, output, trial and list apart.
     impl Engine for Core {
         fn size(&self, n: usize) -> usize {
             unsafe { hop_size(n) }
@@ -96,6 +104,11 @@ mod linked {
 
         fn read_event(&self, bytes: &[u8], place: &mut usize) -> Read {
             unsafe { hop_read_event(bytes.as_ptr(), bytes.len(), place) }
+        }
+
+        fn worth(&self, state: &[u8], trial: &mut [u8], lines: &mut [i32]) -> Answer {
+            let (trial_at, lines_at) = (trial.as_mut_ptr(), lines.as_mut_ptr());
+            unsafe { hop_worth(state.as_ptr(), state.len(), trial_at, trial.len(), lines_at, lines.len()) }
         }
     }
 }

@@ -45,4 +45,5 @@ pub trait Engine {
     fn status(&self, state: &[u8], node: usize, out: &mut [u8]) -> Answer;
     fn write_event(&self, kind: u32, first: u16, second: u16, out: &mut [u8]) -> Answer;
     fn read_event(&self, bytes: &[u8], place: &mut usize) -> Read;
+    fn worth(&self, state: &[u8], trial: &mut [u8], lines: &mut [i32]) -> Answer;
 }

@@ -1,4 +1,4 @@
-//! The comparison of the hop-route core with a second implementation of document 01.
+//! The comparison of the hop-route core with a second implementation of documents 01 and 02.
 //! Uses std, and the archive where there is one.
 
 pub mod compare;

@@ -1,4 +1,4 @@
-//! Document 01's own numbers, held against any core. Uses the trait, and the second's reading of stored bytes.
+//! The documents' own numbers, held against any core. Uses the trait, and the second's reading of stored bytes.
 
 use crate::engine::{Answer, Engine, Ran};
 use crate::second::stored::Blocks;
@@ -6,7 +6,7 @@ use crate::second::stored::Blocks;
 type Held = Result<(), String>;
 type Check = fn(&dyn Engine) -> Held;
 
-/// The numbers by their names in document 01.
+/// The numbers by their names in document 01, and by their requests in 02.
 pub const NUMBERS: &[(&str, Check)] = &[
     ("P1 fresh n = 1", p1),
     ("P2 node counts and a short buffer", p2),
@@ -22,6 +22,11 @@ pub const NUMBERS: &[(&str, Check)] = &[
     ("the square", square),
     ("780 links of 40", complete),
     ("a line of 40", line),
+    ("R-1 line of 3", worth_of_line),
+    ("R-1 two nodes, apart and linked", worth_of_two),
+    ("R-1 one node", worth_of_one),
+    ("R-1 780 links of 40", worth_of_complete),
+    ("R-1 refusals and their order", worth_refused),
 ];
 
 /// Two things that document 01 says are equal.
@@ -192,4 +197,62 @@ fn line(core: &dyn Engine) -> Held {
         };
         (u.abs_diff(v), next)
     })
+}
+
+/// The worth of each link of a site at rest, seven numbers a line, with a place more in trial and list than needed.
+fn worth(core: &dyn Engine, n: usize, links: &[(usize, usize)]) -> Result<Vec<[i32; 7]>, String> {
+    let mut state = with_links(core, n, links)?;
+    same("run", core.run(&mut state, 255).code, 0)?;
+    let (before, pairs) = (state.clone(), n * (n - 1) / 2);
+    let (mut trial, mut list) = (vec![0xee; state.len() + 1], vec![i32::MIN; 7 * pairs + 1]);
+    same("worth", core.worth(&state, &mut trial, &mut list), answered(pairs as u32))?;
+    same("the state stays", state == before, true)?;
+    same("behind the copy and behind the lines", (trial.pop(), list.pop()), (Some(0xee), Some(i32::MIN)))?;
+    same("the trial is a copy", trial == state, true)?;
+    Ok(list.chunks_exact(7).map(|line| line.try_into().expect("seven numbers")).collect())
+}
+
+fn worth_of_line(core: &dyn Engine) -> Held {
+    let should = vec![[0, 1, 2, 2, 4, 0, 0], [0, 2, 2, 9, 0, 0, -2], [1, 2, 2, 2, 4, 0, 0]];
+    same("lines", worth(core, 3, &[(0, 1), (1, 2)])?, should)
+}
+
+fn worth_of_two(core: &dyn Engine) -> Held {
+    same("apart", worth(core, 2, &[])?, vec![[0, 1, 2, 5, 0, 2, 0]])?;
+    same("linked", worth(core, 2, &[(0, 1)])?, vec![[0, 1, 0, 0, 2, 0, 0]])
+}
+
+fn worth_of_one(core: &dyn Engine) -> Held {
+    same("lines", worth(core, 1, &[])?, vec![])
+}
+
+/// Each end tells its 38 other neighbours that the other is two hops away now, and none of them has to change.
+fn worth_of_complete(core: &dyn Engine) -> Held {
+    let links: Vec<(usize, usize)> = (0..40).flat_map(|a| (a + 1..40).map(move |b| (a, b))).collect();
+    let should: Vec<[i32; 7]> = links.iter().map(|&(a, b)| [a as i32, b as i32, 1, 76, 0, 0, 2]).collect();
+    same("lines", worth(core, 40, &links)?, should)
+}
+
+fn worth_refused(core: &dyn Engine) -> Held {
+    let mut state = with_links(core, 2, &[])?;
+    let refused = |state: &[u8], trial: usize, lines: usize, code: u32| {
+        let (mut trial, mut list) = (vec![0xee; trial], vec![i32::MIN; lines]);
+        let what = format!("worth with {} bytes and {lines} numbers", trial.len());
+        same(&what, core.worth(state, &mut trial, &mut list), Answer { code, value: 0 })?;
+        let untouched = trial.iter().all(|&byte| byte == 0xee) && list.iter().all(|&number| number == i32::MIN);
+        same("trial and list are untouched", untouched, true)
+    };
+    refused(&state, 40, 7, 2)?;
+    refused(&state, 41, 6, 2)?;
+    refused(&state, 0, 0, 2)?;
+    refused(&[1, 0, 0, 0, 1, 0, 0, 0], 7, 0, 2)?;
+    same("up 0 1", core.up(&mut state, 0, 1), 0)?;
+    refused(&state, 41, 7, 12)?;
+    refused(&state, 0, 0, 12)?;
+    state[1] = 1;
+    refused(&state, 0, 0, 3)?;
+    refused(&state[..40], 0, 0, 2)?;
+    state[0] = 41;
+    refused(&state[..40], 0, 0, 1)?;
+    refused(&[], 0, 0, 2)
 }

@@ -1,4 +1,4 @@
-//! The second implementation against document 01's own numbers and its worked example. Needs no archive.
+//! The second implementation against the documents' own numbers and 01's worked example. Needs no archive.
 
 use crate::compare::Count;
 use crate::numbers::{NUMBERS, same};

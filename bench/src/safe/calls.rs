@@ -141,12 +141,6 @@ fn found(bytes: &[u8], place: &mut usize) -> Judged<Read> {
     Ok(Read { code: 0, kind, first, second })
 }
 
-impl Safe {
-    pub fn worth(&self, state: &[u8], trial: &mut [u8], lines: &mut [i32]) -> Answer {
-        one(worth(state, trial, lines))
-    }
-}
-
 impl Engine for Safe {
     fn size(&self, n: usize) -> usize {
         if (1..=40).contains(&n) { size(n) } else { 0 }
@@ -238,5 +232,9 @@ impl Engine for Safe {
 
     fn read_event(&self, bytes: &[u8], place: &mut usize) -> Read {
         read(bytes, place)
+    }
+
+    fn worth(&self, state: &[u8], trial: &mut [u8], lines: &mut [i32]) -> Answer {
+        one(worth(state, trial, lines))
     }
 }

@@ -7,6 +7,7 @@ use super::refusal::Refusal;
 use super::rule::{MOST_NODES, State};
 use super::sound::sound;
 use super::stored::{Blocks, NONE, size, stored};
+use super::worth::Line;
 use crate::engine::{Answer, Engine, Ran, Read};
 
 /// The second implementation.
@@ -46,6 +47,20 @@ fn one(answer: Result<usize, Refusal>) -> Answer {
         Ok(value) => Answer { code: 0, value: wide(value) },
         Err(refusal) => Answer { code: refusal.number(), value: 0 },
     }
+}
+
+/// The worth of each link of the state in a buffer: 12 where it is not at rest, then 2 for a trial or a list that is
+/// too short. Gives how many lines were written.
+fn worth(buffer: &[u8], trial: &mut [u8], list: &mut [i32]) -> Result<usize, Refusal> {
+    let state = state_in(buffer)?;
+    state.try_rest()?;
+    let bytes = stored(&state);
+    let trial = trial.get_mut(..bytes.len()).ok_or(Refusal::Short)?;
+    let list = list.get_mut(..state.pairs().len() * Line::NUMBERS).ok_or(Refusal::Short)?;
+    let lines = state.worth();
+    list.copy_from_slice(&lines.iter().flat_map(Line::numbers).collect::<Vec<i32>>());
+    trial.copy_from_slice(&bytes);
+    Ok(lines.len())
 }
 
 impl Engine for Second {
@@ -129,5 +144,9 @@ impl Engine for Second {
             }
             Err(refusal) => Read { code: refusal.number(), ..Read::default() },
         }
+    }
+
+    fn worth(&self, buffer: &[u8], trial: &mut [u8], lines: &mut [i32]) -> Answer {
+        one(worth(buffer, trial, lines))
     }
 }

@@ -67,6 +67,11 @@ impl State {
         Ok(self.queues[from][to].iter().copied().collect())
     }
 
+    /// At rest: no entry waits.
+    pub fn try_rest(&self) -> Judged<()> {
+        if self.total_queued() == 0 { Ok(()) } else { Err(Refusal::NotAtRest) }
+    }
+
     /// What a status record says of a node, in its order.
     pub fn try_status(&self, node: usize) -> Judged<[usize; 5]> {
         self.below_n(&[node])?;

@@ -1,4 +1,5 @@
-//! The second implementation: document 01 on tables and queues, written from the document alone.
+//! The second implementation: document 01, and 02 as far as it has landed, on tables and queues, written from the
+//! documents alone.
 //! Uses std and the names of the calls; shares no code and no offsets with the core.
 
 pub mod calls;
@@ -9,5 +10,6 @@ pub mod refusal;
 pub mod rule;
 pub mod sound;
 pub mod stored;
+pub mod worth;
 
 pub use calls::Second;

@@ -1,4 +1,4 @@
-//! Document 01's refusal numbers, by name. Uses nothing.
+//! The refusal numbers of documents 01 and 02, by name. Uses nothing.
 
 /// Why a call is refused.
 #[derive(Clone, Copy, PartialEq, Eq, Debug)]
@@ -14,10 +14,11 @@ pub enum Refusal {
     RecordCut = 9,
     UnknownKind = 10,
     WrongLength = 11,
+    NotAtRest = 12,
 }
 
 impl Refusal {
-    /// Document 01's number for it.
+    /// The documents' number for it.
     pub fn number(self) -> u32 {
         self as u32
     }
