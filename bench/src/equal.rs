@@ -16,6 +16,7 @@ fn held(cases: u64, skip: &[&str]) {
 #[test]
 fn equals_the_second_implementation() {
     let program = ["program", "program-input"];
-    held(8, &[&program[..], &["numbers", "two-nodes", "three-nodes", "every-node-count"]].concat());
+    let long = ["numbers", "two-nodes", "three-nodes", "every-node-count", "worth-every-node-count"];
+    held(8, &[&program[..], &long].concat());
     held(40, &program);
 }

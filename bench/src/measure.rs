@@ -68,7 +68,7 @@ impl Round<'_> {
         let mut out = [0; 14];
         let start = Instant::now();
         for _ in 0..self.often {
-            black_box(self.row.call.on(self.engine, black_box(&mut self.buffer), black_box(&mut out)));
+            black_box(self.row.call.on(self.engine, black_box(&mut self.buffer), black_box(&mut out), &mut []));
         }
         each(start, self.often)
     }
@@ -78,7 +78,7 @@ impl Round<'_> {
 pub fn row(core: &dyn Engine, safe: &dyn Engine, row: &Row) -> Result<Best, String> {
     let outcome = |engine: &dyn Engine| {
         let (mut state, mut out) = (row.state.clone(), [0; 14]);
-        (row.call.on(engine, &mut state, &mut out), state, out)
+        (row.call.on(engine, &mut state, &mut out, &mut []), state, out)
     };
     let (is, should) = (outcome(core), outcome(safe));
     if is != should {

@@ -59,3 +59,15 @@ pub fn run(n: usize, passes: usize, deliveries: usize) -> Result<(), String> {
         Err(format!("{passes} passes and {deliveries} deliveries with n = {n}"))
     }
 }
+
+/// What a link is worth by hop counts before and after: ordered pairs that lost their route, those that gained one, and
+/// the change in hops over those with a route both times.
+pub fn worth(before: &[Vec<usize>], after: &[Vec<usize>]) -> [i64; 3] {
+    let n = before.len();
+    let hops = || before.iter().flatten().zip(after.iter().flatten());
+    let lost = hops().filter(|&(&was, &is)| was < n && is == n).count();
+    let gained = hops().filter(|&(&was, &is)| was == n && is < n).count();
+    let both = || hops().filter(|&(&was, &is)| was.max(is) < n);
+    let change = both().map(|(_, &is)| is as i64).sum::<i64>() - both().map(|(&was, _)| was as i64).sum::<i64>();
+    [lost as i64, gained as i64, change]
+}

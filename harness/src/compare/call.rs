@@ -1,6 +1,10 @@
-//! One call on a state as a value, and what came of it. Uses the trait of the calls.
+//! One call on a state as a value, and what came of it. Uses the trait of the calls, and random numbers for what
+//! stands in a trial and a list before it.
 
+use super::random::Random;
+use super::states::pairs;
 use crate::engine::Engine;
+use crate::second::stored::size;
 
 /// A call on the state in a buffer.
 #[derive(Clone, Copy, PartialEq, Eq, Debug)]
@@ -43,22 +47,54 @@ pub enum Call {
         node: usize,
         room: usize,
     },
+    /// With so many bytes for the trial and so many numbers for the lines. What stands in both before it is random,
+    /// and fixed by a seed.
+    Worth {
+        trial: usize,
+        lines: usize,
+        seed: u64,
+    },
 }
 
 /// The number, then the other answers; 0 where a call has fewer.
 pub type Answers = [u32; 3];
 
+/// An output before a call: bytes that no record is likely to have.
+pub fn blank(room: usize) -> Vec<u8> {
+    (0..room).map(|place| 0xd0 ^ place as u8).collect()
+}
+
+/// What the worth of a state of n nodes needs: bytes for the trial, numbers for the lines.
+pub fn needed(n: usize) -> (usize, usize) {
+    (size(n), 7 * pairs(n).len())
+}
+
 impl Call {
-    /// The room that the call has for its output.
-    pub fn room(&self) -> usize {
+    /// The worth of a state of n nodes, in a trial and a list of exact size.
+    pub fn worth(n: usize, seed: u64) -> Call {
+        let (trial, lines) = needed(n);
+        Call::Worth { trial, lines, seed }
+    }
+
+    /// The call's output before it: room for a record, with bytes that no record is likely to have, or a trial.
+    pub fn blank(&self) -> Vec<u8> {
         match *self {
-            Call::Status { room, .. } => room,
-            _ => 0,
+            Call::Status { room, .. } => blank(room),
+            Call::Worth { trial, seed, .. } => Random::new(seed).bytes(trial),
+            _ => Vec::new(),
         }
     }
 
-    /// Has a core do it.
-    pub fn on(&self, core: &dyn Engine, state: &mut [u8], out: &mut [u8]) -> Answers {
+    /// The call's list of numbers before it.
+    pub fn blank_list(&self) -> Vec<i32> {
+        match *self {
+            Call::Worth { lines, seed, .. } => Random::new(!seed).numbers(lines),
+            _ => Vec::new(),
+        }
+    }
+
+    /// Has a core do it, with an output or a trial, and a list.
+    pub fn on(&self, core: &dyn Engine, state: &mut [u8], out: &mut [u8], list: &mut [i32]) -> Answers {
         let number = |code: u32| [code, 0, 0];
         let one = |answer: crate::engine::Answer| [answer.code, answer.value, 0];
         match *self {
@@ -77,6 +113,7 @@ impl Call {
             Call::QueueLength { from, to } => one(core.queue_length(state, from, to)),
             Call::TotalQueued => one(core.total_queued(state)),
             Call::Status { node, .. } => one(core.status(state, node, out)),
+            Call::Worth { .. } => one(core.worth(state, out, list)),
         }
     }
 
@@ -87,6 +124,9 @@ impl Call {
         calls.extend([0, 1, 255].map(|allowance| Call::Run { allowance }));
         calls.extend([0, 13, 14, 15].map(|room| Call::Status { node: first, room }));
         calls.push(Call::Make { n: first });
+        // There is room for five nodes and no more, so that no call makes trials of large states.
+        calls.push(Call::worth(5, first as u64 ^ (second as u64).rotate_left(32)));
+        calls.push(Call::Worth { trial: 0, lines: 0, seed: 0 });
         calls
     }
 

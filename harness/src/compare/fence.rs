@@ -28,7 +28,7 @@ pub enum Placement {
     Front,
     /// Guard bytes before it, a closed page behind.
     Back,
-    /// Guard bytes on both sides, at an odd place.
+    /// Guard bytes on both sides, at a place that is odd, or for numbers aligned for nothing wider.
     Between,
 }
 
@@ -48,7 +48,7 @@ fn guard(at: usize) -> u8 {
 impl Fence {
     /// A fence for buffers of at most this many bytes.
     pub fn new(room: usize) -> Fence {
-        let open = (room + 2 * GUARD + 1).next_multiple_of(PAGE);
+        let open = (room + 2 * GUARD + size_of::<i32>()).next_multiple_of(PAGE);
         // A mapping of its own that is never given back: no other reference to it can be.
         let open = unsafe {
             let all = mmap(std::ptr::null_mut(), open + 2 * PAGE, CLOSED, PRIVATE_ANONYMOUS, -1, 0);
@@ -62,10 +62,21 @@ impl Fence {
 
     /// Puts a buffer's bytes in place, with guard bytes on the open sides. Gives its range.
     pub fn put(&mut self, bytes: &[u8], placement: Placement) -> Range<usize> {
+        self.put_aligned(bytes, placement, 1)
+    }
+
+    /// Puts a list of numbers in place, in the same way.
+    pub fn put_numbers(&mut self, numbers: &[i32], placement: Placement) -> Range<usize> {
+        let bytes: Vec<u8> = numbers.iter().flat_map(|number| number.to_ne_bytes()).collect();
+        self.put_aligned(&bytes, placement, size_of::<i32>())
+    }
+
+    /// The place between two guards is the worst that the alignment allows.
+    fn put_aligned(&mut self, bytes: &[u8], placement: Placement, alignment: usize) -> Range<usize> {
         let first = match placement {
             Placement::Front => 0,
             Placement::Back => self.open.len() - bytes.len(),
-            Placement::Between => GUARD + 1,
+            Placement::Between => GUARD + alignment,
         };
         let range = first..first + bytes.len();
         for at in self.guards(&range) {
@@ -83,6 +94,14 @@ impl Fence {
 
     pub fn lent(&mut self, range: &Range<usize>) -> &mut [u8] {
         &mut self.open[range.clone()]
+    }
+
+    /// A list that was put as numbers.
+    pub fn lent_numbers(&mut self, range: &Range<usize>) -> &mut [i32] {
+        // Any four bytes are a number, and a list that was put so is aligned.
+        let (before, numbers, behind) = unsafe { self.open[range.clone()].align_to_mut::<i32>() };
+        assert!(before.is_empty() && behind.is_empty(), "a list stands where its numbers can");
+        numbers
     }
 
     /// The guard bytes are as they were put.

@@ -1,7 +1,7 @@
 //! Where the core and the second implementation meet: one call, the same bytes, every answer and byte compared.
 //! Uses the calls, the fences and the second implementation.
 
-use super::call::{Answers, Call};
+use super::call::{Answers, Call, blank};
 use super::fence::{Fence, Placement};
 use crate::engine::{Answer, Engine, Read};
 use crate::second::Second;
@@ -11,12 +11,15 @@ use std::path::PathBuf;
 
 /// The most bytes that a buffer has here: a state of 40 nodes, and some behind it.
 pub const MOST_BYTES: usize = 198_401 + 1024;
+/// The most numbers that a list has here: the lines of 40 nodes, and some behind them.
+pub const MOST_NUMBERS: usize = 7 * 780 + 1024;
 
 /// What a call should come to.
 pub struct Outcome {
     pub answers: Answers,
     pub state: Vec<u8>,
     pub out: Vec<u8>,
+    pub list: Vec<i32>,
 }
 
 /// The core under comparison with its fences, and the built program where there is one.
@@ -25,24 +28,21 @@ pub struct Ground<'a> {
     pub program: PathBuf,
     state: Fence,
     out: Fence,
+    list: Fence,
     turn: usize,
-}
-
-/// An output before a call: bytes that no record is likely to have.
-fn blank(room: usize) -> Vec<u8> {
-    (0..room).map(|place| 0xd0 ^ place as u8).collect()
 }
 
 /// What the second implementation makes of a call.
 pub fn outcome(before: &[u8], call: &Call) -> Outcome {
-    let (mut state, mut out) = (before.to_vec(), blank(call.room()));
-    let answers = call.on(&Second, &mut state, &mut out);
-    Outcome { answers, state, out }
+    let (mut state, mut out, mut list) = (before.to_vec(), call.blank(), call.blank_list());
+    let answers = call.on(&Second, &mut state, &mut out, &mut list);
+    Outcome { answers, state, out, list }
 }
 
 impl<'a> Ground<'a> {
     pub fn new(core: &'a dyn Engine, program: PathBuf) -> Ground<'a> {
-        Ground { core, program, state: Fence::new(MOST_BYTES), out: Fence::new(MOST_BYTES), turn: 0 }
+        let (state, out, list) = (Fence::new(MOST_BYTES), Fence::new(MOST_BYTES), Fence::new(4 * MOST_NUMBERS));
+        Ground { core, program, state, out, list, turn: 0 }
     }
 
     /// The placements take turns, so that each call meets each.
@@ -51,12 +51,19 @@ impl<'a> Ground<'a> {
         Placement::ALL[self.turn % 3]
     }
 
+    /// Those of a list take turns of their own, so that it meets each beside each of the others'.
+    fn placement_of_list(&self) -> Placement {
+        Placement::ALL[self.turn / 6 % 3]
+    }
+
     /// Has the core do a call and holds it to an outcome.
     pub fn hold(&mut self, before: &[u8], call: &Call, should: &Outcome) -> Result<(), String> {
-        let (of_state, of_out) = (self.placement(), self.placement());
+        let (of_state, of_out, of_list) = (self.placement(), self.placement(), self.placement_of_list());
         let state = self.state.put(before, of_state);
-        let out = self.out.put(&blank(call.room()), of_out);
-        let answers = call.on(self.core, self.state.lent(&state), self.out.lent(&out));
+        let out = self.out.put(&call.blank(), of_out);
+        let list = self.list.put_numbers(&call.blank_list(), of_list);
+        let lent = (self.state.lent(&state), self.out.lent(&out), self.list.lent_numbers(&list));
+        let answers = call.on(self.core, lent.0, lent.1, lent.2);
         let differs = |what: String| Err(format!("{call:?}: {what}\n  on {}", shown(before)));
         if answers != should.answers {
             return differs(format!("answers {answers:?}, should be {:?}", should.answers));
@@ -65,10 +72,15 @@ impl<'a> Ground<'a> {
             let (is, named) = (self.state.lent(&state)[at], name_of(&should.state, at));
             return differs(format!("byte {at} ({named}) is {is}, should be {}", should.state[at]));
         }
-        if self.out.lent(&out) != should.out {
-            return differs(format!("the output is {}, should be {}", hex(self.out.lent(&out)), hex(&should.out)));
+        if let Some(at) = first_difference(self.out.lent(&out), &should.out) {
+            let is = self.out.lent(&out)[at];
+            return differs(format!("byte {at} of the output is {is}, should be {}", should.out[at]));
         }
-        if !self.state.intact(&state) || !self.out.intact(&out) {
+        if let Some(at) = first_difference(self.list.lent_numbers(&list), &should.list) {
+            let is = self.list.lent_numbers(&list)[at];
+            return differs(format!("number {} of line {} is {is}, should be {}", at % 7, at / 7, should.list[at]));
+        }
+        if !self.state.intact(&state) || !self.out.intact(&out) || !self.list.intact(&list) {
             return differs("a byte outside the buffer was written".to_string());
         }
         Ok(())
@@ -91,7 +103,7 @@ impl<'a> Ground<'a> {
         behind: &[u8],
     ) -> Result<(), String> {
         let with_behind = |state: &State| [stored(state).as_slice(), behind].concat();
-        let should = Outcome { answers, state: with_behind(to), out: Vec::new() };
+        let should = Outcome { answers, state: with_behind(to), out: Vec::new(), list: Vec::new() };
         self.hold(&with_behind(from), call, &should)
     }
 
@@ -144,7 +156,7 @@ fn shown(state: &[u8]) -> String {
     }
 }
 
-fn first_difference(is: &[u8], should: &[u8]) -> Option<usize> {
+fn first_difference<T: PartialEq>(is: &[T], should: &[T]) -> Option<usize> {
     is.iter().zip(should).position(|(a, b)| a != b)
 }
 

@@ -29,7 +29,7 @@ pub struct Options {
 pub const USAGE: &str = "\
 compare [--seconds N | --cases N] [--seed N] [--group NAME].. [--skip NAME].. [--case N] [--first] [--program PATH]
         --first stops at the first group that fails
-compare --selftest    the second implementation against document 01's numbers; needs no archive
+compare --selftest    the second implementation against the documents' numbers; needs no archive
 compare --list        the groups
 The last line is 'N passed, M failed', counting groups that ran; the exit status is 0 only if M is 0.";
 

@@ -48,6 +48,10 @@ impl Random {
         (0..count).map(|_| self.byte()).collect()
     }
 
+    pub fn numbers(&mut self, count: usize) -> Vec<i32> {
+        (0..count).map(|_| self.word() as i32).collect()
+    }
+
     /// True so many times in a hundred.
     pub fn chance(&mut self, hundredths: usize) -> bool {
         self.below(100) < hundredths

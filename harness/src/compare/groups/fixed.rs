@@ -1,4 +1,4 @@
-//! Document 01's numbers and the sizes, through the core. Uses the list of numbers.
+//! The documents' numbers and the sizes, through the core. Uses the list of numbers.
 
 use crate::compare::ground::Ground;
 use crate::engine::Engine;

@@ -9,6 +9,7 @@ mod program;
 mod records;
 mod runs;
 mod small;
+mod worth;
 
 use super::ground::Ground;
 use super::random::Random;
@@ -42,7 +43,7 @@ const fn cases(
 }
 
 pub const GROUPS: &[Group] = &[
-    whole("numbers", "document 01's own numbers", fixed::numbers),
+    whole("numbers", "the documents' own numbers", fixed::numbers),
     whole("sizes", "the size of every node count, and of numbers that are none", fixed::sizes),
     whole("two-nodes", "every state of two nodes that events reach, every call in it", small::two_nodes),
     whole("three-nodes", "states of three nodes that a few events reach, every event in it", small::three_nodes),
@@ -54,6 +55,10 @@ pub const GROUPS: &[Group] = &[
     whole("every-byte", "every byte of small states with every value in its place", small::every_byte),
     whole("every-length", "every length of a buffer for small states, every call", small::every_length),
     whole("every-pair", "every pair of number classes, every call", arguments::every_pair),
+    whole("worth-every-set", "what each link is worth, for every set of links of up to five nodes", worth::every_set),
+    whole("worth-every-room", "the same of small sites, in trials and lists of every length", worth::every_room),
+    whole("worth-every-node-count", "the same of a site of each n from 1 to 40", worth::every_node_count),
+    whole("worth-one-waits", "the same asked where one entry waits, in each queue in turn", worth::one_waits),
     whole("kinds", "every event kind and many others, written into rooms of every length", records::kinds),
     whole("fronts", "every front of a record, cut at every byte", records::fronts),
     cases("make", 2, "node counts and buffers of every class, any bytes before it", lengths::make),
@@ -69,6 +74,9 @@ pub const GROUPS: &[Group] = &[
     cases("damaged-stretches", 3, "sound states with a stretch of bytes changed", damaged::stretches),
     cases("random-bytes", 2, "buffers of any bytes", damaged::random_bytes),
     cases("clauses", 5, "each clause of soundness broken on purpose", damaged::clauses),
+    cases("worth", 4, "what each link is worth, of random sites, in trials and lists of every class", worth::sites),
+    cases("worth-refused", 3, "its refusals and their order", worth::refused),
+    cases("worth-by-search", 3, "its lines held to searches over the links, and to runs", worth::by_search),
     cases("read", 3, "any bytes and damaged records through the reader", records::read),
     cases("write", 1, "records written and read back", records::write),
     cases("program", 5, "random scripts through the built program", program::scripts),

@@ -10,7 +10,7 @@ use crate::second::rule::State;
 use crate::second::stored::{size, stored};
 
 /// Bytes behind a state: none, or a few that must stay as they are.
-fn behind(random: &mut Random) -> Vec<u8> {
+pub fn behind(random: &mut Random) -> Vec<u8> {
     let count = *random.pick(&[0, 0, 1, 7, 40]);
     random.bytes(count)
 }

@@ -1,6 +1,6 @@
 //! All states of few nodes that events reach. Uses the rule to find them and the ground to compare.
 
-use crate::compare::call::Call;
+use crate::compare::call::{Call, needed};
 use crate::compare::ground::Ground;
 use crate::compare::random::Random;
 use crate::compare::states::{self, Event, apply, filled, pairs};
@@ -63,6 +63,10 @@ fn every_call(ground: &mut Ground, state: &State) -> Result<u64, String> {
     let bytes = stored(state);
     let mut calls = vec![Call::Check, Call::Pass, Call::TotalQueued];
     calls.extend([0, 1, 2, 3, 4, 255].map(|allowance| Call::Run { allowance }));
+    let (trial, lines) = needed(state.n);
+    for (no_trial, no_line) in [(0, 0), (1, 0), (0, 1), (trial, 0), (0, lines)] {
+        calls.push(Call::Worth { trial: trial - no_trial, lines: lines - no_line, seed: calls.len() as u64 });
+    }
     for first in 0..=state.n {
         calls.extend([0, 13, 14, 15].map(|room| Call::Status { node: first, room }));
         calls.extend((0..=state.n).flat_map(|second| Call::with_two(first, second)));

@@ -1,0 +1,228 @@
+//! What each link is worth: sites at rest, states that are not, trials and lists of every length. Uses the rule, the
+//! bounds and the ground.
+
+use super::runs::behind;
+use crate::compare::bounds;
+use crate::compare::call::{Call, needed};
+use crate::compare::damage::{self, DAMAGES};
+use crate::compare::ground::{Ground, outcome};
+use crate::compare::random::Random;
+use crate::compare::states::{self, pairs};
+use crate::second::rule::{Entry, State};
+use crate::second::stored::{Blocks, stored};
+
+/// A site with these links, at rest.
+fn at_rest(n: usize, links: &[(usize, usize)]) -> State {
+    let mut state = State::fresh(n);
+    for &(a, b) in links {
+        state.up(a, b);
+    }
+    state.run(255);
+    state
+}
+
+fn site(random: &mut Random, n: usize) -> State {
+    let links = states::links(random, n);
+    at_rest(n, &links)
+}
+
+/// Small sites often and large ones at times: a call has as many trials as there are pairs.
+fn node_count(random: &mut Random) -> usize {
+    match random.below(100) {
+        0..50 => random.between(1, 5),
+        50..85 => random.between(6, 10),
+        85..98 => random.between(11, 16),
+        _ => random.between(17, 24),
+    }
+}
+
+/// Every set of links of up to five nodes. At rest there is one state for each.
+pub fn every_set(ground: &mut Ground) -> Result<u64, String> {
+    let mut count = 0;
+    for n in 1..=5 {
+        let pairs = pairs(n);
+        for set in 0..1_u64 << pairs.len() {
+            let links = pairs.iter().enumerate().filter(|(k, _)| set >> k & 1 == 1);
+            let links: Vec<(usize, usize)> = links.map(|(_, &pair)| pair).collect();
+            ground.agree(&stored(&at_rest(n, &links)), &Call::worth(n, set))?;
+            count += 1;
+        }
+    }
+    Ok(count)
+}
+
+/// Trials and lists of every length up to a few more than a small site needs.
+pub fn every_room(ground: &mut Ground) -> Result<u64, String> {
+    let mut count = 0;
+    for n in 1..=3 {
+        let random = &mut Random::of_case(0, "worth-every-room", n as u64);
+        let bytes = stored(&site(random, n));
+        let (bytes_needed, numbers_needed) = needed(n);
+        for trial in 0..bytes_needed + 3 {
+            for lines in 0..numbers_needed + 9 {
+                // A trial that is far too short meets few lists.
+                if trial + 2 >= bytes_needed || lines == 0 || lines.abs_diff(numbers_needed) <= 1 {
+                    ground.agree(&bytes, &Call::Worth { trial, lines, seed: random.word() })?;
+                    count += 1;
+                }
+            }
+        }
+    }
+    Ok(count)
+}
+
+/// A random site for each node count; and of 40 nodes a line, which is the longest to bring to rest, all links and none.
+pub fn every_node_count(ground: &mut Ground) -> Result<u64, String> {
+    let random = &mut Random::of_case(0, "worth-every-node-count", 0);
+    let mut sites: Vec<State> = (1..=40).map(|n| site(random, n)).collect();
+    let line: Vec<(usize, usize)> = (1..40).map(|b| (b - 1, b)).collect();
+    sites.extend([at_rest(40, &line), at_rest(40, &pairs(40)), at_rest(40, &[])]);
+    for state in &sites {
+        let n = state.n;
+        ground.agree(&stored(state), &Call::worth(n, random.word())).map_err(|what| format!("n = {n}: {what}"))?;
+    }
+    Ok(sites.len() as u64)
+}
+
+/// Puts an entry that tells nothing new at a queue's tail. The state stays sound where the destination does not wait.
+fn add_entry(state: &mut State, from: usize, to: usize, destination: usize) {
+    let value = state.distances[from][destination];
+    state.queues[from][to].push_back(Entry { destination, value });
+}
+
+/// The state is sound and not at rest, and both say so, in buffers that would do.
+fn not_at_rest(ground: &mut Ground, state: &State, seed: u64) -> Result<(), String> {
+    let (bytes, call) = (stored(state), Call::worth(state.n, seed));
+    let should = outcome(&bytes, &call);
+    if should.answers != [12, 0, 0] {
+        return Err(format!("an entry waits, and the second implementation answers {:?}", should.answers));
+    }
+    ground.hold(&bytes, &call, &should)
+}
+
+/// One entry in each queue in turn, the others empty; and so many entries that a byte's sum of them is 0.
+pub fn one_waits(ground: &mut Ground) -> Result<u64, String> {
+    let random = &mut Random::of_case(0, "worth-one-waits", 0);
+    let mut count = 0;
+    for n in [2, 3, 5, 40] {
+        let whole = at_rest(n, &pairs(n));
+        // Of a large site some nodes.
+        let nodes: Vec<usize> = if n == 40 { vec![0, 1, 20, 38, 39] } else { (0..n).collect() };
+        let ends = nodes.iter().flat_map(|&from| nodes.iter().map(move |&to| (from, to)));
+        for (from, to) in ends.filter(|(from, to)| from != to) {
+            let mut state = whole.clone();
+            add_entry(&mut state, from, to, random.below(n));
+            not_at_rest(ground, &state, random.word())?;
+            count += 1;
+        }
+    }
+    let mut state = at_rest(16, &pairs(16));
+    for from in 0..16 {
+        (0..16).for_each(|v| add_entry(&mut state, from, (from + 1) % 16, v));
+    }
+    not_at_rest(ground, &state, random.word())?;
+    Ok(count + 1)
+}
+
+/// A site with bytes behind it; trials and lists that are exact, longer, short by one, and none at all.
+pub fn sites(ground: &mut Ground, random: &mut Random) -> Result<(), String> {
+    let n = node_count(random);
+    let bytes = [stored(&site(random, n)), behind(random)].concat();
+    let (trial, lines) = needed(n);
+    let (more, many) = (random.between(1, 900), random.between(1, 900));
+    let one_less = lines.saturating_sub(1);
+    let rooms = [(trial, lines), (trial + more, lines + many), (trial + many, lines), (trial, lines + more)];
+    let short = [(trial - 1, lines + many), (trial + more, one_less), (trial - 1, one_less), (0, lines), (trial, 0)];
+    let any = [(random.below(trial), random.below(lines + 1))];
+    for (trial, lines) in rooms.into_iter().chain(short).chain(any) {
+        ground.agree(&bytes, &Call::Worth { trial, lines, seed: random.word() })?;
+    }
+    Ok(())
+}
+
+/// A site at rest, or one in which a single entry waits.
+fn almost_at_rest(random: &mut Random, n: usize) -> State {
+    let mut state = site(random, n);
+    let up: Vec<(usize, usize)> = pairs(n).into_iter().filter(|&(a, b)| state.links[a][b]).collect();
+    if random.chance(60) && !up.is_empty() {
+        let &(a, b) = random.pick(&up);
+        let (from, to) = if random.chance(50) { (a, b) } else { (b, a) };
+        add_entry(&mut state, from, to, random.below(n));
+    }
+    state
+}
+
+/// A state's bytes with others behind them; often damaged, at times cut or with another first byte.
+fn spoiled(random: &mut Random, state: &State) -> Vec<u8> {
+    let mut blocks = Blocks::of(state);
+    match random.below(5) {
+        0 => damage::bytes(random, &mut blocks, 1),
+        1 => _ = random.pick(DAMAGES)(random, &mut blocks),
+        _ => {}
+    }
+    let mut bytes = [blocks.write(), behind(random)].concat();
+    match random.below(10) {
+        0 => bytes.truncate(random.below(bytes.len())),
+        1 => bytes[0] = *random.pick(&[0, 41, 128, 255]),
+        _ => {}
+    }
+    bytes
+}
+
+/// The order of refusals: each of a state's, with a trial and a list that would do and with short ones.
+pub fn refused(ground: &mut Ground, random: &mut Random) -> Result<(), String> {
+    let n = random.node_count();
+    let state = if random.chance(40) { almost_at_rest(random, n) } else { states::any(random, n) };
+    let bytes = spoiled(random, &state);
+    let (trial, lines) = needed(n);
+    let short_trial = *random.pick(&[0, 1, trial - 1]);
+    let short_list = *random.pick(&[0, lines / 7, lines.saturating_sub(1)]);
+    let rooms = [(trial, lines), (short_trial, lines), (trial, short_list), (short_trial, short_list)];
+    // Of a large site only refusals are looked at here: all its trials take long.
+    let first = usize::from(n > 10 && state.total_queued() == 0);
+    for &(trial, lines) in &rooms[first..] {
+        ground.agree(&bytes, &Call::Worth { trial, lines, seed: random.word() })?;
+    }
+    Ok(())
+}
+
+/// The core's own lines, with nothing of the second implementation's worth: routes and hops are held to a search over
+/// the links before and after, passes and deliveries to the core's own calls for the link and for a run.
+pub fn by_search(ground: &mut Ground, random: &mut Random) -> Result<(), String> {
+    let n = if random.chance(3) { 40 } else { node_count(random) };
+    let state = site(random, n);
+    let bytes = stored(&state);
+    let (mut trial, mut list) = (random.bytes(bytes.len()), random.numbers(needed(n).1));
+    let answer = ground.core.worth(&bytes, &mut trial, &mut list);
+    if (answer.code, answer.value as usize) != (0, pairs(n).len()) || trial != bytes {
+        return Err(format!("n = {n}: {answer:?}, or the trial is no copy of the state"));
+    }
+    let hops = |state: &State| (0..n).map(|u| bounds::hops(state, u)).collect::<Vec<_>>();
+    let before = hops(&state);
+    for (line, (a, b)) in list.chunks_exact(7).zip(pairs(n)) {
+        let wrong = |what: String| format!("line {line:?} of {a} and {b}: {what}\n  n = {n}, {:?}", state.links);
+        let mut after = state.clone();
+        (after.links[a][b], after.links[b][a]) = (!state.links[a][b], !state.links[a][b]);
+        let should = bounds::worth(&before, &hops(&after));
+        let (pair, routes) = ([line[0], line[1]], [line[4], line[5], line[6]].map(i64::from));
+        if pair != [a as i32, b as i32] || routes != should {
+            return Err(wrong(format!("should end {should:?}")));
+        }
+        bounds::run(n, line[2] as usize, line[3] as usize).map_err(wrong)?;
+        // Of a large site some pairs.
+        if n <= 10 || random.chance(2) {
+            by_own_run(ground, &bytes, state.links[a][b], line).map_err(wrong)?;
+        }
+    }
+    Ok(())
+}
+
+/// A line's passes and deliveries are those that the core gives for the same link turned by hand.
+fn by_own_run(ground: &Ground, bytes: &[u8], is_up: bool, line: &[i32]) -> Result<(), String> {
+    let (a, b) = (line[0] as usize, line[1] as usize);
+    let mut state = bytes.to_vec();
+    let turned = if is_up { ground.core.down(&mut state, a, b) } else { ground.core.up(&mut state, a, b) };
+    let ran = ground.core.run(&mut state, 255);
+    let is = [turned as i32, ran.code as i32, ran.passes as i32, ran.deliveries as i32];
+    if is == [0, 0, line[2], line[3]] { Ok(()) } else { Err(format!("by hand {is:?}")) }
+}
