@@ -1,8 +1,12 @@
-//! The safe implementation does the same as the second one: the comparison holds it to it. Uses the comparison.
+//! The safe implementation does the same as the second one: the comparison holds it to it, and so does what is timed.
+//! Uses the comparison and the rows.
 
+use crate::measure::outcome;
+use crate::rows::rows;
 use crate::safe::Safe;
 use hop_harness::compare::compare;
 use hop_harness::compare::options::{Amount, Options};
+use hop_harness::second::Second;
 
 /// So many cases of each random group, without some groups. One that fails is enough.
 fn held(cases: u64, skip: &[&str]) {
@@ -19,4 +23,12 @@ fn equals_the_second_implementation() {
     let long = ["numbers", "two-nodes", "three-nodes", "every-node-count", "worth-every-node-count"];
     held(8, &[&program[..], &long].concat());
     held(40, &program);
+}
+
+/// The rows themselves, but for the largest: the second implementation takes long over these.
+#[test]
+fn rows_equal_the_second_implementation() {
+    for row in [10, 20].into_iter().flat_map(rows) {
+        assert!(outcome(&Safe, &row) == outcome(&Second, &row), "{}, n = {}", row.name, row.state[0]);
+    }
 }

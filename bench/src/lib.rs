@@ -5,5 +5,3 @@ mod equal;
 pub mod measure;
 pub mod rows;
 pub mod safe;
-#[cfg(test)]
-mod trials;

@@ -2,6 +2,7 @@
 
 use crate::rows::{Row, events, script};
 use crate::safe::calls::check_in_pairs;
+use hop_harness::compare::call::Answers;
 use hop_harness::engine::Engine;
 use std::hint::black_box;
 use std::time::{Duration, Instant};
@@ -16,15 +17,23 @@ pub struct Best {
 /// How long a row is timed, and how often at least.
 const TIME: Duration = Duration::from_millis(400);
 const ROUNDS: usize = 15;
+/// After how long fewer rounds are enough, and how many: one of them may take a quarter of a second.
+const LONG: Duration = Duration::from_secs(2);
+const FEW: usize = 5;
 /// What a shorter work is done so often that the clock does not matter.
 const CLOCK: f64 = 20_000.0;
+
+/// Whether so many rounds in such a time are enough.
+fn enough(rounds: usize, time: Duration) -> bool {
+    (rounds >= ROUNDS && time >= TIME) || (rounds >= FEW && time >= LONG)
+}
 
 /// Times two works turn and turn about. Each gives its own time in nanoseconds.
 pub fn best_of(mut core: impl FnMut() -> f64, mut safe: impl FnMut() -> f64) -> Best {
     let mut best = Best { core: f64::MAX, safe: f64::MAX };
     let start = Instant::now();
     let mut rounds = 0;
-    while rounds < ROUNDS || start.elapsed() < TIME {
+    while !enough(rounds, start.elapsed()) {
         // The one that comes second finds a warmer machine, so they change places.
         if rounds % 2 == 0 {
             best.core = best.core.min(core());
@@ -43,20 +52,44 @@ fn each(start: Instant, often: u32) -> f64 {
     start.elapsed().as_nanos() as f64 / f64::from(often)
 }
 
+/// Every buffer that a row lends: the state, an output or a trial, and a list.
+#[derive(PartialEq, Eq)]
+pub struct Lent {
+    state: Vec<u8>,
+    out: Vec<u8>,
+    list: Vec<i32>,
+}
+
+impl Lent {
+    fn new(row: &Row) -> Lent {
+        Lent { state: row.state.clone(), out: row.call.blank(), list: row.call.blank_list() }
+    }
+
+    fn to(&mut self, engine: &dyn Engine, row: &Row) -> Answers {
+        row.call.on(engine, &mut self.state, &mut self.out, &mut self.list)
+    }
+}
+
+/// What an engine makes of a row: the answers, and every buffer after it.
+pub fn outcome(engine: &dyn Engine, row: &Row) -> (Answers, Lent) {
+    let mut lent = Lent::new(row);
+    (lent.to(engine, row), lent)
+}
+
 /// One round of a row: the state put back, then the call, so often that the clock does not matter.
 struct Round<'a> {
     engine: &'a dyn Engine,
     row: &'a Row,
-    buffer: Vec<u8>,
+    lent: Lent,
     often: u32,
 }
 
 impl Round<'_> {
     fn new<'a>(engine: &'a dyn Engine, row: &'a Row) -> Round<'a> {
-        let mut round = Round { engine, row, buffer: row.state.clone(), often: 1 };
+        let mut round = Round { engine, row, lent: Lent::new(row), often: 1 };
         let once = round.once();
         // A call that changes the state is done once on each copy; the others can be done again on the same.
-        let changes = round.buffer != row.state;
+        let changes = round.lent.state != row.state;
         if !changes && once < CLOCK {
             round.often = (CLOCK / once.max(10.0)) as u32 + 1;
         }
@@ -64,23 +97,18 @@ impl Round<'_> {
     }
 
     fn once(&mut self) -> f64 {
-        self.buffer.copy_from_slice(&self.row.state);
-        let mut out = [0; 14];
+        self.lent.state.copy_from_slice(&self.row.state);
         let start = Instant::now();
         for _ in 0..self.often {
-            black_box(self.row.call.on(self.engine, black_box(&mut self.buffer), black_box(&mut out), &mut []));
+            black_box(black_box(&mut self.lent).to(self.engine, self.row));
         }
         each(start, self.often)
     }
 }
 
-/// Times a row, after making sure that both give the same answers and bytes.
+/// Times a row, after making sure that both give the same answers and leave the same in every buffer.
 pub fn row(core: &dyn Engine, safe: &dyn Engine, row: &Row) -> Result<Best, String> {
-    let outcome = |engine: &dyn Engine| {
-        let (mut state, mut out) = (row.state.clone(), [0; 14]);
-        (row.call.on(engine, &mut state, &mut out, &mut []), state, out)
-    };
-    let (is, should) = (outcome(core), outcome(safe));
+    let (is, should) = (outcome(core, row), outcome(safe, row));
     if is != should {
         return Err(format!("{}, n = {}: the two differ ({:?}, {:?})", row.name, row.state[0], is.0, should.0));
     }

@@ -99,18 +99,12 @@ pub fn rows(n: usize) -> Vec<Row> {
         row("distance", at_rest(complete(n)), Call::Distance { node: 0, destination: last }),
         row("total queued, all queues full", complete(n), Call::TotalQueued),
         row("status, all queues full", complete(n), Call::Status { node: last, room: 14 }),
+        row("worth, a line", at_rest(line(n)), Call::worth(n, 0)),
+        row("worth, a ring", at_rest(ring(n)), Call::worth(n, 0)),
+        row("worth, four links a node", at_rest(four_links(n)), Call::worth(n, 0)),
+        row("worth, all links", at_rest(complete(n)), Call::worth(n, 0)),
     ]);
     rows
-}
-
-/// States at rest whose links' worth is asked for, by name.
-pub fn worths(n: usize) -> Vec<(&'static str, Vec<u8>)> {
-    vec![
-        ("worth, a line", at_rest(line(n))),
-        ("worth, a ring", at_rest(ring(n))),
-        ("worth, four links a node", at_rest(four_links(n))),
-        ("worth, all links", at_rest(complete(n))),
-    ]
 }
 
 /// Event records, one of each kind in turn.
