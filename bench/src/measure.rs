@@ -17,23 +17,15 @@ pub struct Best {
 /// How long a row is timed, and how often at least.
 const TIME: Duration = Duration::from_millis(400);
 const ROUNDS: usize = 15;
-/// After how long fewer rounds are enough, and how many: one of them may take a quarter of a second.
-const LONG: Duration = Duration::from_secs(2);
-const FEW: usize = 5;
 /// What a shorter work is done so often that the clock does not matter.
 const CLOCK: f64 = 20_000.0;
-
-/// Whether so many rounds in such a time are enough.
-fn enough(rounds: usize, time: Duration) -> bool {
-    (rounds >= ROUNDS && time >= TIME) || (rounds >= FEW && time >= LONG)
-}
 
 /// Times two works turn and turn about. Each gives its own time in nanoseconds.
 pub fn best_of(mut core: impl FnMut() -> f64, mut safe: impl FnMut() -> f64) -> Best {
     let mut best = Best { core: f64::MAX, safe: f64::MAX };
     let start = Instant::now();
     let mut rounds = 0;
-    while !enough(rounds, start.elapsed()) {
+    while rounds < ROUNDS || start.elapsed() < TIME {
         // The one that comes second finds a warmer machine, so they change places.
         if rounds % 2 == 0 {
             best.core = best.core.min(core());
