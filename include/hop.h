@@ -5,6 +5,7 @@
  * hops and the downstream neighbour on the way there. Links are brought up and down; entries are
  * delivered one at a time, in passes, or in runs of passes until no queue holds any. From any sound
  * state, and without link events, rest comes within n passes, and distances are then true hop counts.
+ * For a state at rest one call tries every link out in a second buffer, and says what each is worth.
  *
  * THE STATE is a buffer of bytes that the caller owns: hop_size(n) bytes at its front, which can be kept
  * in a file or handed on as they are. Bytes of the buffer after these are never read or written. Every
@@ -12,7 +13,7 @@
  * never followed.
  *
  * ANSWERS. Each call gives one of these numbers. Any other than 0 is a refusal: every other answer is then
- * 0, and no byte of any buffer has changed.
+ * 0, and no byte of any buffer, nor number of any list, has changed.
  *
  *    0  done
  *    1  the node count (asked for, or the state's first byte) is not 1 to 40
@@ -26,16 +27,18 @@
  *    9  a record is cut short
  *   10  its kind is unknown
  *   11  its length is not that of its kind
+ *   12  the state is not at rest: an entry waits
  *
  * WHAT IS JUDGED FIRST. Where several refusals apply, a call on a state gives the first of: 2 for an empty
- * buffer, 1, 2 for a buffer that is shorter than hop_size of its first byte, 3, 4, 5, 6 or 7, 8, and last 2
- * for an output that is too short. At each call below its refusals stand in this order; 'the state's own'
- * are 2, 1, 2, 3 as just said.
+ * buffer, 1, 2 for a buffer that is shorter than hop_size of its first byte, 3, 4, 5, 6 or 7, 8, 12, and last
+ * 2 for an output, a trial or a list that is too short. At each call below its refusals stand in this order;
+ * 'the state's own' are 2, 1, 2, 3 as just said.
  *
- * POINTERS AND LENGTHS. A length may be anything, 0 too; the pointer must be valid for so many bytes. Nodes,
- * destinations, node counts and places are full size_t, so that no number is cut down on its way in: 65,537
- * is refused and not taken for 1. A state and an output must not overlap, nor may a place lie inside the
- * bytes that are read; the core relies on it and cannot check it.
+ * POINTERS AND LENGTHS. A length may be anything, 0 too; the pointer must be valid for so many bytes, or for
+ * so many numbers of a list. Nodes, destinations, node counts and places are full size_t, so that no number
+ * is cut down on its way in: 65,537 is refused and not taken for 1. A state and an output must not overlap,
+ * nor may any two of a state, a trial and a list, nor may a place lie inside the bytes that are read. A list
+ * is aligned as int32_t is. The core relies on all this and cannot check it.
  *
  * No function allocates, blocks, prints, keeps anything between calls, or calls another library. Calls on
  * different buffers may run at the same time; calls on one buffer that change it may not.
@@ -188,6 +191,45 @@ hop_answer hop_queue_length(const uint8_t *state, size_t len, size_t from, size_
  *     int at_rest = hop_total_queued(state, len).value == 0; // also 0 where the state is refused: see code
  */
 hop_answer hop_total_queued(const uint8_t *state, size_t len);
+
+/* ------------------------------------------------------------------ what each link is worth */
+
+/* Tries out, for a state at rest and for every pair of nodes a < b, what their link is worth: a link that is up is
+ * taken down, one that is down is put up, and the trial is run to rest. The state is only read, but for as long as
+ * the call takes: of a state that others write to, ask on a copy.
+ *
+ * The trials are made in a second buffer, trial, which is the caller's as well and needs as many bytes as the state's
+ * form, hop_size(n). What stands in it before does not matter. It ends as a copy of the state's form; its bytes after
+ * that stay as they were.
+ *
+ * lines gets seven numbers for each pair, ascending by a and then by b: n(n-1)/2 lines, none with one node. So
+ * lines_len, which counts numbers and not bytes, must be at least 7 n(n-1)/2: 21 for 3 nodes, 5,460 for 40, and 0
+ * for one. Numbers of the list after the lines stay as they were. value: the lines written.
+ *
+ *     at   number       what                                                                      bounds
+ *     0    a            the lower-numbered end                                                    0 to n-2
+ *     1    b            the other end                                                             a+1 to n-1
+ *     2    passes       passes of the run that brought the trial to rest                          0 to n
+ *     3    deliveries   entries delivered in them                                                 0 to n^3 (n-1)
+ *     4    lost         ordered pairs with a route before, a distance below n, and none after     0 to n^2
+ *     5    gained       ordered pairs with a route after and none before                          0 to n^2
+ *     6    change       hops after minus hops before, over ordered pairs with a route both times  -n^3 to n^3
+ *
+ * With 40 nodes these are at most 40 passes, 2,496,000 deliveries, 1,600 pairs and 64,000 hops either way. The change
+ * is below 0 where routes got shorter. Taking a link away gains nothing and its change is at least 0; adding one
+ * loses nothing and its change is at most 0.
+ *
+ * Refuses: the state's own; 12 if an entry waits (bring the state to rest first, or a copy of it: hop_run); 2 if
+ * trial_len is below the state's hop_size(n), or lines_len below 7 n(n-1)/2.
+ *
+ *     int32_t lines[21];                                     // 7 numbers for each of the 3 pairs of 3 nodes
+ *     uint8_t trial[118];                                    // hop_size(3)
+ *     hop_answer worth = hop_worth(state, len, trial, sizeof trial, lines, sizeof lines / sizeof lines[0]);
+ *     // with the links 0-1 and 1-2, at rest: .code 0, .value 3; the line of the pair 0, 2, which begins at
+ *     // lines[7], is 0 2 2 9 0 0 -2: adding it makes two routes a hop shorter, after 2 passes and 9 deliveries
+ */
+hop_answer hop_worth(const uint8_t *state, size_t len, uint8_t *trial, size_t trial_len, int32_t *lines,
+                     size_t lines_len);
 
 /* ------------------------------------------------------------------ records */
 
