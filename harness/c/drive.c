@@ -1,6 +1,6 @@
 /* drive.c: the calls from C through hop.h, on buffers of exact size from malloc, for valgrind and the sanitizers.
  * Uses hop.h and the C library. Memory is left as malloc gives it wherever no byte may be read: a make in it, the
- * bytes behind a state, an output. What the answers should be is the comparison's matter; here a few are looked at.
+ * bytes behind a state, an output, a trial, a list. What the answers should be is the comparison's matter; here a few are looked at.
  */
 #include "hop.h"
 
@@ -56,6 +56,7 @@ static void nothing(void)
     MUST(hop_queue_length(NULL, 0, 0, 1).code == 2);
     MUST(hop_total_queued(NULL, 0).code == 2);
     MUST(hop_status(NULL, 0, 0, NULL, 0).code == 2);
+    MUST(hop_worth(NULL, 0, NULL, 0, NULL, 0).code == 2);
     MUST(hop_write_event(19, 0, 0, NULL, 0).code == 2);
     MUST(hop_write_event(20, 0, 0, NULL, 0).code == 10);
     event = hop_read_event(NULL, 0, &place);
@@ -77,8 +78,10 @@ static void short_buffers(size_t n)
         MUST(hop_check(state, length) == 2);
         MUST(hop_up(state, length, 0, 1) == 2);
         MUST(hop_pass(state, length).code == 2);
+        MUST(hop_worth(state, length, NULL, 0, NULL, 0).code == 2);
         state[0] = 41;
         MUST(hop_check(state, length) == 1);
+        MUST(hop_worth(state, length, NULL, 0, NULL, 0).code == 1);
         free(state);
     }
 }
@@ -96,6 +99,48 @@ static void questions(const uint8_t *state, size_t length, size_t n)
     MUST(status.code == 0 && status.value == 14 && record[0] == 12 && record[4] == u);
     MUST(hop_status(state, length, u, record, 13).code == 2);
     free(record);
+}
+
+/* Each line is its pair's. A link that is up is taken away and gains nothing; one that is down is put up and loses
+ * nothing. */
+static int in_order(const uint8_t *state, size_t n, const int32_t *line)
+{
+    for (size_t a = 0; a < n; a++) {
+        for (size_t b = a + 1; b < n; b++, line += 7) {
+            int is_up = state[1 + a * n + b];
+            if ((size_t)line[0] != a || (size_t)line[1] != b || line[2] > (int32_t)n || line[3] < line[2])
+                return 0;
+            if (is_up ? line[5] != 0 || line[6] < 0 : line[4] != 0 || line[6] > 0)
+                return 0;
+        }
+    }
+    return 1;
+}
+
+/* The worth of a state of n nodes, in a trial and a list of so many bytes and numbers that nobody has written. */
+static hop_answer worth(const uint8_t *state, size_t length, size_t n, size_t trial_len, size_t lines_len)
+{
+    uint8_t *trial = room(trial_len);
+    int32_t *lines = (int32_t *)(void *)room(lines_len * sizeof *lines);
+    hop_answer answer = hop_worth(state, length, trial, trial_len, lines, lines_len);
+    if (answer.code == 0)
+        MUST(memcmp(trial, state, hop_size(n)) == 0 && in_order(state, n, lines));
+    free(trial);
+    free(lines);
+    return answer;
+}
+
+/* What each link of a site at rest is worth: in buffers of exact size, in longer ones, and in short ones. */
+static void worths(const uint8_t *state, size_t length, size_t n)
+{
+    size_t size = hop_size(n), pairs = n * (n - 1) / 2;
+    hop_answer answer = worth(state, length, n, size, 7 * pairs);
+    MUST(answer.code == 0 && answer.value == pairs);
+    MUST(worth(state, length, n, size - 1, 7 * pairs).code == 2);
+    if (pairs > 0)
+        MUST(worth(state, length, n, size, 7 * pairs - 1).code == 2);
+    if (n <= 12)
+        MUST(worth(state, length, n, size + n, 7 * pairs + n).value == pairs);
 }
 
 /* Random events in a buffer with bytes behind the state that nobody has written. */
@@ -131,13 +176,19 @@ static void events(size_t n, size_t behind, int steps)
         }
         questions(state, length, n);
     }
+    if (hop_total_queued(state, length).value > 0)
+        MUST(worth(state, length, n, hop_size(n), 7 * n * n).code == 12);
     hop_ran ran = hop_run(state, length, 255);
     MUST(ran.code == 0 && ran.passes <= n);
     MUST(hop_total_queued(state, length).value == 0);
     MUST(hop_check(state, length) == 0);
+    /* All trials of all large sites would take long; one of them is enough. */
+    if (n <= 16 || n == 40)
+        worths(state, length, n);
     state[1] = 2;
     MUST(hop_check(state, length) == 3);
     MUST(hop_run(state, length, 255).code == 3);
+    MUST(worth(state, length, n, 0, 0).code == 3);
     free(state);
 }
 

@@ -24,7 +24,7 @@ static pthread_mutex_t turn = PTHREAD_MUTEX_INITIALIZER;
 static pid_t served;
 static int to_served, from_served;
 static union {
-    uint8_t bytes[sizeof(turn_call) + 2 * MOST_LENT];
+    uint8_t bytes[sizeof(turn_call) + LENT * MOST_LENT];
     turn_call call;
     turn_answer answer;
 } message;
@@ -110,41 +110,46 @@ static lent only_read(const uint8_t *bytes, size_t length)
     return (lent){same.plain, length, 1};
 }
 
-static turn_answer ask(uint64_t which, uint64_t a, uint64_t b, uint64_t c, lent first, lent second)
+/* Hands a call on with all bytes of its buffers, and takes all of them back. */
+static turn_answer hand_on(turn_call call, const lent all[LENT])
 {
-    lent both[2] = {first, second};
     size_t length = sizeof(turn_call);
     turn_answer answer;
     pthread_mutex_lock(&turn);
     if (served == 0)
         start();
-    message.call = (turn_call){.which = which, .number = {a, b, c}};
-    for (int k = 0; k < 2; k++) {
-        if (both[k].length > MOST_LENT)
+    for (int k = 0; k < LENT; k++) {
+        if (all[k].length > MOST_LENT)
             fail("a buffer is too long to be handed on");
-        message.call.lent[k].length = both[k].length;
-        message.call.lent[k].is_null = both[k].bytes == NULL;
-        if (both[k].length > 0)
-            memcpy(message.bytes + length, both[k].bytes, both[k].length);
-        length += both[k].length;
+        call.lent[k].length = all[k].length;
+        call.lent[k].is_null = all[k].bytes == NULL;
+        if (all[k].length > 0)
+            memcpy(message.bytes + length, all[k].bytes, all[k].length);
+        length += all[k].length;
     }
+    message.call = call;
     if (write(to_served, message.bytes, length) != (ssize_t)length)
         fail("a call was not taken");
-    take(sizeof(turn_answer) + first.length + second.length);
+    take(sizeof(turn_answer) + length - sizeof(turn_call));
     answer = message.answer;
     length = sizeof(turn_answer);
-    for (int k = 0; k < 2; k++) {
+    for (int k = 0; k < LENT; k++) {
         const uint8_t *back = message.bytes + length;
-        length += both[k].length;
-        if (both[k].length == 0)
+        length += all[k].length;
+        if (all[k].length == 0)
             continue;
-        if (!both[k].only_read)
-            memcpy(both[k].bytes, back, both[k].length);
-        else if (memcmp(both[k].bytes, back, both[k].length) != 0)
+        if (!all[k].only_read)
+            memcpy(all[k].bytes, back, all[k].length);
+        else if (memcmp(all[k].bytes, back, all[k].length) != 0)
             fail("a byte was written that is lent for reading");
     }
     pthread_mutex_unlock(&turn);
     return answer;
+}
+
+static turn_answer ask(uint64_t which, uint64_t a, uint64_t b, uint64_t c, lent first, lent second)
+{
+    return hand_on((turn_call){.which = which, .number = {a, b, c}}, (lent[LENT]){first, second, nothing});
 }
 
 static hop_answer two(turn_answer is)
@@ -227,4 +232,14 @@ hop_event hop_read_event(const uint8_t *bytes, size_t len, size_t *place)
 {
     turn_answer is = ask(READ_EVENT, 0, 0, 0, only_read(bytes, len), written(place, sizeof *place));
     return (hop_event){is.field[0], is.field[1], is.field[2], is.field[3]};
+}
+
+hop_answer hop_worth(const uint8_t *state, size_t len, uint8_t *trial, size_t trial_len, int32_t *lines,
+                     size_t lines_len)
+{
+    /* Before it is counted in bytes, or a long list could pass for a short one. */
+    if (lines_len > MOST_LENT / sizeof *lines)
+        fail("a list is too long to be handed on");
+    lent all[LENT] = {only_read(state, len), written(trial, trial_len), written(lines, lines_len * sizeof *lines)};
+    return two(hand_on((turn_call){.which = WORTH}, all));
 }

@@ -131,10 +131,15 @@ static turn_answer two(hop_answer is)
     return (turn_answer){0, {is.code, is.value, 0, 0}};
 }
 
-static turn_answer asked(const turn_call *call, const fence *first, const fence *second)
+static uint8_t *lent(const fence *its)
 {
-    uint8_t *state = first->is_null ? NULL : first->at, *out = second->is_null ? NULL : second->at;
-    size_t length = first->length, room = second->length;
+    return its->is_null ? NULL : its->at;
+}
+
+static turn_answer asked(const turn_call *call, const fence all[LENT])
+{
+    uint8_t *state = lent(&all[0]), *out = lent(&all[1]);
+    size_t length = all[0].length, room = all[1].length;
     size_t a = call->number[0], b = call->number[1], c = call->number[2];
     switch (call->which) {
     case SIZE:
@@ -172,6 +177,11 @@ static turn_answer asked(const turn_call *call, const fence *first, const fence 
         hop_event event = hop_read_event(state, length, (size_t *)(void *)out);
         return (turn_answer){0, {event.code, event.kind, event.first, event.second}};
     }
+    case WORTH: {
+        /* Pages are aligned for anything, and a list has whole numbers: it is aligned at either end of them. */
+        int32_t *list = (int32_t *)(void *)lent(&all[2]);
+        return two(hop_worth(state, length, out, room, list, all[2].length / sizeof *list));
+    }
     default:
         must(0, "served: no such call\n");
         return one(0);
@@ -180,24 +190,29 @@ static turn_answer asked(const turn_call *call, const fence *first, const fence 
 
 __attribute__((used)) static void serve(void)
 {
-    fence first, second;
+    fence all[LENT];
     turn_call call;
-    close_off(&first);
-    close_off(&second);
+    for (int k = 0; k < LENT; k++)
+        close_off(&all[k]);
     must(ask_system(SYS_WRITE, OUT, (long)&(char){READY}, 1, 0, 0) == 1, "served: nobody listens\n");
     for (;;) {
         take(&call, sizeof call, 1);
-        put(&first, call.lent[0].length, call.lent[0].is_null != 0);
-        put(&second, call.lent[1].length, call.lent[1].is_null != 0);
-        turn_answer answer = asked(&call, &first, &second);
-        look_at_guard(&first);
-        look_at_guard(&second);
+        for (int k = 0; k < LENT; k++)
+            put(&all[k], call.lent[k].length, call.lent[k].is_null != 0);
+        turn_answer answer = asked(&call, all);
         struct {
             void *bytes;
             size_t length;
-        } parts[3] = {{&answer, sizeof answer}, {first.at, first.length}, {second.at, second.length}};
-        size_t all = sizeof answer + first.length + second.length;
-        must(ask_system(SYS_WRITEV, OUT, (long)parts, 3, 0, 0) == (long)all, "served: an answer was cut short\n");
+        } parts[1 + LENT] = {{&answer, sizeof answer}};
+        size_t length = sizeof answer;
+        for (int k = 0; k < LENT; k++) {
+            look_at_guard(&all[k]);
+            parts[1 + k].bytes = all[k].at;
+            parts[1 + k].length = all[k].length;
+            length += all[k].length;
+        }
+        must(ask_system(SYS_WRITEV, OUT, (long)parts, 1 + LENT, 0, 0) == (long)length,
+             "served: an answer was cut short\n");
     }
 }
 

@@ -1,7 +1,7 @@
 /* turn.h: what far.c and served.c say to each other through two pipes. Uses hop.h's types.
  *
- * served.c says READY once. Each call is then a turn_call and the bytes of its two lent buffers, and the answer to it
- * a turn_answer and all bytes of both buffers, also of those that a call may only read.
+ * served.c says READY once. Each call is then a turn_call and the bytes of its lent buffers one after another, and the
+ * answer to it a turn_answer and all bytes of these buffers, also of those that a call may only read.
  */
 #ifndef TURN_H
 #define TURN_H
@@ -15,19 +15,21 @@
 
 /* The most bytes that a lent buffer can have here; a state takes at most 198,401. */
 #define MOST_LENT (1u << 20)
+/* How many buffers a call can be lent. */
+#define LENT 3
 #define READY 'r'
 
 enum {
     SIZE, MAKE, CHECK, UP, DOWN, DELIVER, PASS, RUN, DISTANCE, DOWNSTREAM, QUEUE_LENGTH, TOTAL_QUEUED, STATUS,
-    WRITE_EVENT, READ_EVENT
+    WRITE_EVENT, READ_EVENT, WORTH
 };
 
-/* Which call, its numbers, and its buffers: the state or the bytes, then the output or the place. */
+/* Which call, its numbers, and its buffers: the state or the bytes, the output, the place or the trial, the list. */
 typedef struct {
     uint64_t which, number[3];
     struct {
         uint64_t length, is_null;
-    } lent[2];
+    } lent[LENT];
 } turn_call;
 
 /* hop_size's answer, or the fields of another's in their order. */

@@ -57,7 +57,7 @@ pub const GROUPS: &[Group] = &[
     whole("every-pair", "every pair of number classes, every call", arguments::every_pair),
     whole("worth-every-set", "what each link is worth, for every set of links of up to five nodes", worth::every_set),
     whole("worth-every-room", "the same of small sites, in trials and lists of every length", worth::every_room),
-    whole("worth-every-node-count", "the same of a site of each n from 1 to 40", worth::every_node_count),
+    whole("worth-node-counts", "the same of a site of each n from 1 to 24, of 32 and of 40", worth::node_counts),
     whole("worth-one-waits", "the same asked where one entry waits, in each queue in turn", worth::one_waits),
     whole("kinds", "every event kind and many others, written into rooms of every length", records::kinds),
     whole("fronts", "every front of a record, cut at every byte", records::fronts),

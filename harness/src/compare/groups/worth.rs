@@ -71,12 +71,11 @@ pub fn every_room(ground: &mut Ground) -> Result<u64, String> {
     Ok(count)
 }
 
-/// A random site for each node count; and of 40 nodes a line, which is the longest to bring to rest, all links and none.
-pub fn every_node_count(ground: &mut Ground) -> Result<u64, String> {
-    let random = &mut Random::of_case(0, "worth-every-node-count", 0);
-    let mut sites: Vec<State> = (1..=40).map(|n| site(random, n)).collect();
-    let line: Vec<(usize, usize)> = (1..40).map(|b| (b - 1, b)).collect();
-    sites.extend([at_rest(40, &line), at_rest(40, &pairs(40)), at_rest(40, &[])]);
+/// A random site for each node count up to 24 and for 32; and of 40 nodes a line, whose trials are the longest.
+pub fn node_counts(ground: &mut Ground) -> Result<u64, String> {
+    let random = &mut Random::of_case(0, "worth-node-counts", 0);
+    let mut sites: Vec<State> = (1..=24).chain([32]).map(|n| site(random, n)).collect();
+    sites.push(at_rest(40, &(1..40).map(|b| (b - 1, b)).collect::<Vec<_>>()));
     for state in &sites {
         let n = state.n;
         ground.agree(&stored(state), &Call::worth(n, random.word())).map_err(|what| format!("n = {n}: {what}"))?;
@@ -189,7 +188,7 @@ pub fn refused(ground: &mut Ground, random: &mut Random) -> Result<(), String> {
 /// The core's own lines, with nothing of the second implementation's worth: routes and hops are held to a search over
 /// the links before and after, passes and deliveries to the core's own calls for the link and for a run.
 pub fn by_search(ground: &mut Ground, random: &mut Random) -> Result<(), String> {
-    let n = if random.chance(3) { 40 } else { node_count(random) };
+    let n = if random.chance(1) { 40 } else { node_count(random) };
     let state = site(random, n);
     let bytes = stored(&state);
     let (mut trial, mut list) = (random.bytes(bytes.len()), random.numbers(needed(n).1));
