@@ -47,7 +47,7 @@ compare: $(HOP_ARCHIVE) $(HOP_PROGRAM)
 program-test: $(HOP_PROGRAM)
 	@python3 tests/program/cases.py $(HOP_PROGRAM)
 
-# The second implementation against document 01's own numbers. Needs no archive.
+# The second implementation against the documents' own numbers. Needs no archive.
 selftest:
 	@$(UNLINKED) cargo build --quiet --release -p hop_harness
 	@build/unlinked/release/compare --selftest
@@ -78,7 +78,7 @@ example: $(HOP_ARCHIVE) | $(HARNESS_OUT)
 
 # What the sanitizers run: the comparison with few cases of each group, without those that are all-or-nothing and long.
 # Its fences have closed pages on both sides with or without them.
-FEW := --cases 5 --skip three-nodes --skip every-node-count --skip every-byte --skip numbers
+FEW := --cases 5 --skip three-nodes --skip every-node-count --skip every-byte --skip numbers --skip worth-node-counts
 
 # Reads of what nobody wrote and accesses outside of a buffer, in the archive's own code: exact buffers from C, then
 # the comparison.

@@ -71,11 +71,13 @@ pub fn every_room(ground: &mut Ground) -> Result<u64, String> {
     Ok(count)
 }
 
-/// A random site for each node count up to 24 and for 32; and of 40 nodes a line, whose trials are the longest.
+/// A random site for each node count up to 24 and for 32; and one of 40 nodes, the first 13 with all links and the others
+/// a tail. Its trials have up to 39 passes and over 65,536 deliveries, and change up to 7,762 hops.
 pub fn node_counts(ground: &mut Ground) -> Result<u64, String> {
     let random = &mut Random::of_case(0, "worth-node-counts", 0);
     let mut sites: Vec<State> = (1..=24).chain([32]).map(|n| site(random, n)).collect();
-    sites.push(at_rest(40, &(1..40).map(|b| (b - 1, b)).collect::<Vec<_>>()));
+    let tailed: Vec<(usize, usize)> = pairs(40).into_iter().filter(|&(a, b)| b < 13 || a + 1 == b).collect();
+    sites.push(at_rest(40, &tailed));
     for state in &sites {
         let n = state.n;
         ground.agree(&stored(state), &Call::worth(n, random.word())).map_err(|what| format!("n = {n}: {what}"))?;
