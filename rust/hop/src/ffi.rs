@@ -1,6 +1,6 @@
 //! The calls of include/hop.h on slices: the only unsafe code of the crate. Uses the archive.
-//! A slice is valid for its length and lent for the call's own time, and a `&mut` output cannot overlap a state:
-//! that is all that the header asks of a caller.
+//! A slice is valid for its length, aligned as its numbers are and lent for the call's own time, and what is lent as
+//! `&mut` cannot overlap anything else that is lent: that is all that the header asks of a caller.
 #![allow(unsafe_code)]
 
 #[repr(C)]
@@ -37,6 +37,14 @@ unsafe extern "C" {
     fn hop_downstream(state: *const u8, len: usize, node: usize, destination: usize) -> Answer;
     fn hop_queue_length(state: *const u8, len: usize, from: usize, to: usize) -> Answer;
     fn hop_total_queued(state: *const u8, len: usize) -> Answer;
+    fn hop_worth(
+        state: *const u8,
+        len: usize,
+        trial: *mut u8,
+        trial_len: usize,
+        lines: *mut i32,
+        lines_len: usize,
+    ) -> Answer;
     fn hop_status(state: *const u8, len: usize, node: usize, out: *mut u8, out_len: usize) -> Answer;
     fn hop_write_event(kind: u32, first: u16, second: u16, out: *mut u8, out_len: usize) -> Answer;
     fn hop_read_event(bytes: *const u8, len: usize, place: *mut usize) -> Read;
@@ -88,6 +96,10 @@ pub fn queue_length(state: &[u8], from: usize, to: usize) -> Answer {
 
 pub fn total_queued(state: &[u8]) -> Answer {
     unsafe { hop_total_queued(state.as_ptr(), state.len()) }
+}
+
+pub fn worth(state: &[u8], trial: &mut [u8], lines: &mut [i32]) -> Answer {
+    unsafe { hop_worth(state.as_ptr(), state.len(), trial.as_mut_ptr(), trial.len(), lines.as_mut_ptr(), lines.len()) }
 }
 
 pub fn status(state: &[u8], node: usize, out: &mut [u8]) -> Answer {

@@ -12,12 +12,17 @@
 //! is given: an empty buffer ([`ShortBuffer`](Refusal::ShortBuffer)), [`NodeCount`](Refusal::NodeCount), a short
 //! buffer, [`NotSound`](Refusal::NotSound), [`NoSuchNode`](Refusal::NoSuchNode), [`OneNode`](Refusal::OneNode),
 //! [`LinkIsUp`](Refusal::LinkIsUp) or [`LinkIsDown`](Refusal::LinkIsDown), [`QueueIsEmpty`](Refusal::QueueIsEmpty),
-//! and last an output that is too short.
+//! [`NotAtRest`](Refusal::NotAtRest), and last an output, a trial or a list that is too short.
 //!
 //! # Coming to rest
 //!
 //! Without link events, n passes bring any sound state to rest: no queue holds an entry, every distance is the true
 //! number of hops (n for no path), and every downstream is the lowest-numbered neighbour one hop nearer.
+//!
+//! # What each link is worth
+//!
+//! For a state at rest, [`State::worth`] tries every link out on a copy, and gives for each a [`Worth`]: the routes
+//! that are lost or gained, and the hops. The state itself is only read.
 
 mod answer;
 mod event;
@@ -25,11 +30,13 @@ mod ffi;
 mod refusal;
 mod state;
 mod status;
+mod worth;
 
 pub use event::{Event, Reader};
 pub use refusal::Refusal;
 pub use state::{Ran, State};
 pub use status::Status;
+pub use worth::{Lines, Worth};
 
 /// The largest node count.
 pub const MOST_NODES: usize = 40;

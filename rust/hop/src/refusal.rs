@@ -41,10 +41,12 @@ pub enum Refusal {
     UnknownKind = 10,
     /// 11: a record's length is not that of its kind.
     WrongLength = 11,
+    /// 12: the state is not at rest: an entry waits.
+    NotAtRest = 12,
 }
 
 impl Refusal {
-    const ALL: [Refusal; 11] = [
+    const ALL: [Refusal; 12] = [
         Refusal::NodeCount,
         Refusal::ShortBuffer,
         Refusal::NotSound,
@@ -56,6 +58,7 @@ impl Refusal {
         Refusal::RecordCut,
         Refusal::UnknownKind,
         Refusal::WrongLength,
+        Refusal::NotAtRest,
     ];
 
     /// The number of the refusal.
@@ -88,6 +91,7 @@ impl fmt::Display for Refusal {
             Refusal::RecordCut => "a record is cut short",
             Refusal::UnknownKind => "its kind is unknown",
             Refusal::WrongLength => "its length is not that of its kind",
+            Refusal::NotAtRest => "the state is not at rest",
         })
     }
 }

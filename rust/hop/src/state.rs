@@ -1,10 +1,13 @@
-//! The state in a buffer, owned or lent, and the calls on it. Uses the foreign calls and the events.
+//! The state in a buffer, owned or lent, and the calls on it. Uses the foreign calls, the events, and the values that
+//! the calls give.
 
+use crate::MOST_NODES;
 use crate::answer::{answered, done};
 use crate::event::Event;
 use crate::ffi;
 use crate::refusal::Refusal;
 use crate::status::Status;
+use crate::worth::{Lines, Worth};
 use std::fmt;
 
 /// A state in a buffer: `State<Vec<u8>>` owns its bytes, `State<&mut [u8]>` is lent them, and `State<&[u8]>` can
@@ -118,6 +121,65 @@ impl<B: AsRef<[u8]>> State<B> {
     /// How many entries wait in the whole state; 0 at rest.
     pub fn total_queued(&self) -> Result<usize, Refusal> {
         answered(ffi::total_queued(self.as_bytes()))
+    }
+
+    /// What each link is worth, for a state at rest: a line for every pair of nodes, `a < b`, ascending.
+    ///
+    /// Each line tells of a trial on a copy: a link that is up is taken down, one that is down is put up, and the copy
+    /// is run to rest. That is n(n − 1)/2 runs, 780 with 40 nodes. The state's own bytes are only read.
+    ///
+    /// The copy is made in a buffer that is allocated for the call and freed with it;
+    /// [`write_worth`](State::write_worth) takes the caller's and allocates nothing.
+    ///
+    /// Refuses: [`NotAtRest`](Refusal::NotAtRest) if an entry waits; a copy of the state can then be run to rest and
+    /// asked.
+    ///
+    /// ```
+    /// use hop::{State, Worth};
+    ///
+    /// let mut state = State::new(3)?;
+    /// state.up(0, 1)?;
+    /// state.up(1, 2)?;
+    /// state.run(255)?;
+    /// let lines = state.worth()?;
+    /// assert_eq!(lines.len(), 3);
+    ///
+    /// // Without 0-1 four pairs have no route: from 0 to 1 and 2, and back. With 0-2, two routes are a hop shorter.
+    /// assert_eq!((lines[0].a, lines[0].b, lines[0].lost), (0, 1, 4));
+    /// assert_eq!(lines[1], Worth { a: 0, b: 2, passes: 2, deliveries: 9, lost: 0, gained: 0, change: -2 });
+    /// # Ok::<(), hop::Refusal>(())
+    /// ```
+    pub fn worth(&self) -> Result<Vec<Worth>, Refusal> {
+        // Long enough for every state: its form is no longer than its buffer, and none has more lines than 40 nodes.
+        let mut trial = vec![0; self.as_bytes().len().min(ffi::size(MOST_NODES))];
+        let mut list = vec![0; Worth::LONGEST_LIST];
+        Ok(self.write_worth(&mut trial, &mut list)?.collect())
+    }
+
+    /// What each link is worth, as [`worth`](State::worth), in buffers that the caller owns and lends for the call.
+    ///
+    /// The trial is scratch memory of at least the state's own [`size`](crate::size): what stands in it before does not
+    /// matter, and it ends with a copy of the state at its front. The list takes [`Worth::list_size`] numbers, seven for
+    /// each line; the lines are read from it one after another. What either holds behind these stays as it was, and
+    /// after a refusal all of it does.
+    ///
+    /// Refuses: [`NotAtRest`](Refusal::NotAtRest), then [`ShortBuffer`](Refusal::ShortBuffer) for the trial or the list.
+    ///
+    /// ```
+    /// use hop::State;
+    ///
+    /// let state = State::new(2)?;
+    /// let (mut trial, mut list) = ([0; 41], [0; 7]);
+    /// for line in state.write_worth(&mut trial, &mut list)? {
+    ///     assert_eq!((line.a, line.b, line.gained), (0, 1, 2));
+    /// }
+    /// assert_eq!(list, [0, 1, 2, 5, 0, 2, 0]);
+    /// assert_eq!(trial, state.as_bytes());
+    /// # Ok::<(), hop::Refusal>(())
+    /// ```
+    pub fn write_worth<'a>(&self, trial: &mut [u8], list: &'a mut [i32]) -> Result<Lines<'a>, Refusal> {
+        let lines = answered(ffi::worth(self.as_bytes(), trial, list))?;
+        Ok(Lines::of_list(&list[..Worth::NUMBERS * lines]))
     }
 
     /// A node's status.

@@ -107,8 +107,8 @@ fn events_are_read_as_written() -> Done {
 
 #[test]
 fn every_refusal_has_its_number() {
-    for number in 1..=11 {
+    for number in 1..=12 {
         assert_eq!(Refusal::of_number(number).map(Refusal::number), Some(number));
     }
-    assert_eq!(Refusal::of_number(12), None);
+    assert_eq!(Refusal::of_number(13), None);
 }
