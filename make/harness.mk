@@ -1,9 +1,9 @@
-# The Rust, C and Python side of the core: comparison, program cases, benchmarks, example, sanitizers.
+# The Rust, C and Python side of the core: comparison, program cases, benchmarks, examples, sanitizers.
 # Needs cargo, a C and a C++ compiler and Python 3. The archive and the program are for x86-64: elsewhere they are
 # emulated (make/emulated.mk), and what times them or looks into them is not done.
 # The main Makefile includes it; alone it is `make -f make/harness.mk TARGET` in the root of the repository.
-.PHONY: compare program-test selftest must-notice valgrind asan bench bench-test example header header-c header-cxx \
-	rust-test native always
+.PHONY: compare program-test selftest must-notice valgrind asan bench bench-test example example-ring example-worth \
+	header header-c header-cxx rust-test native always
 
 # The archive under test, and the program. Either can be another one, which is then taken as it is.
 NATIVE := $(filter x86_64,$(shell uname -m))
@@ -69,12 +69,13 @@ header-c:
 header-cxx:
 	@printf '#include "hop.h"\n' | $(CXX) -std=c++11 -Wall -Wextra -Wpedantic -Werror -Iinclude -x c++ -fsyntax-only -
 
-# The C example: what it prints is shown, and held to the text beside it.
-RING := $(HARNESS_OUT)/ring
-example: $(HOP_ARCHIVE) | $(HARNESS_OUT)
-	@$(CC) $(C_FLAGS) -O2 examples/ring.c $(HOP_ARCHIVE) -o $(RING)
-	@$(RING) > $(RING).stdout; status=$$?; cat $(RING).stdout; exit $$status
-	@diff examples/ring.stdout $(RING).stdout
+# The C examples: what each prints is shown, and held to the text beside it.
+example: example-ring example-worth
+
+example-ring example-worth: example-%: $(HOP_ARCHIVE) | $(HARNESS_OUT)
+	@$(CC) $(C_FLAGS) -O2 examples/$*.c $(HOP_ARCHIVE) -o $(HARNESS_OUT)/$*
+	@$(HARNESS_OUT)/$* > $(HARNESS_OUT)/$*.stdout; status=$$?; cat $(HARNESS_OUT)/$*.stdout; exit $$status
+	@diff examples/$*.stdout $(HARNESS_OUT)/$*.stdout
 
 # What the sanitizers run: the comparison with few cases of each group, without those that are all-or-nothing and long.
 # Its fences have closed pages on both sides with or without them.
