@@ -217,7 +217,8 @@ hop_answer hop_total_queued(const uint8_t *state, size_t len);
  *
  * With 40 nodes these are at most 40 passes, 2,496,000 deliveries, 1,600 pairs and 64,000 hops either way. The change
  * is below 0 where routes got shorter. Taking a link away gains nothing and its change is at least 0; adding one
- * loses nothing and its change is at most 0.
+ * loses nothing and its change is at most 0. Exactly one of the last three is not 0, and tells what was tried: lost,
+ * or a change above 0, that the link is up; gained, or a change below 0, that it is down.
  *
  * Refuses: the state's own; 12 if an entry waits (bring the state to rest first, or a copy of it: hop_run); 2 if
  * trial_len is below the state's hop_size(n), or lines_len below 7 n(n-1)/2.

@@ -6,7 +6,8 @@ use std::slice::ChunksExact;
 
 /// What the link between two nodes is worth: what its trial did, see [`State::worth`](crate::State::worth).
 ///
-/// A pair has a route where its distance is below n. Pairs are ordered: from u to v and from v to u are two.
+/// A pair has a route where its distance is below n. Pairs are ordered: from u to v and from v to u are two. Exactly one
+/// of `lost`, `gained` and `change` is not 0.
 ///
 /// ```
 /// // What hurts most when it goes stands first: the routes that are lost, then the hops that are added.

@@ -86,6 +86,8 @@ fn every_line_is_a_trial_by_hand() -> Done {
         } else {
             assert!(line.lost == 0 && line.change <= 0, "{line:?}");
         }
+        let told = [line.lost > 0, line.gained > 0, line.change != 0];
+        assert_eq!(told.iter().filter(|&&not_zero| not_zero).count(), 1, "{line:?}");
     }
     Ok(())
 }
