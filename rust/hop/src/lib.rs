@@ -21,8 +21,8 @@
 //!
 //! # What each link is worth
 //!
-//! For a state at rest, [`State::worth`] tries every link out on a copy, and gives for each a [`Worth`]: the routes
-//! that are lost or gained, and the hops. The state itself is only read.
+//! For a state at rest, [`State::worth`] tries every link out on a copy, and gives for each a [`Worth`]: how many routes
+//! are lost or gained, and how many hops the others take more or fewer. The state itself is only read.
 
 mod answer;
 mod event;
