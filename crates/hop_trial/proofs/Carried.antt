@@ -24,7 +24,7 @@ use Rattle.hop_rest.proofs.Settling.{total-rest}
 use Rattle.hop_rest.proofs.Changes.{Agree, lost-same, change-same}
 use Rattle.hop_rest.proofs.Worth.{turned-sound, trial-settled, line-fits}
 use Rattle.hop_cells.specs.Cells.{Room, cells, get}
-use Rattle.hop_cells.proofs.Places.{rank, inside, ends-before}
+use Rattle.hop_cells.proofs.Places.{rank, inside, ends-inside, ends-before}
 use Rattle.hop_steps.specs.Steps.{linkUp, linkDown}
 use Rattle.hop_changes.proofs.Sums.{signed-kept}
 use Rattle.hop_runs.specs.Runs as runs
@@ -238,6 +238,6 @@ module _ {n : ℕ} {s x : List ℕ} (h : Copied n s x) (a b : ℕ) (ascends : a 
             ∙ copied-again,
       )
 
-  -- And there is room for the copy.
-  pub front-fits : {k : ℕ} → k ≡ front → (k ≤ length s) × (k ≤ length x)
-  front-fits e = (omega (arith, e, front-within, state-room h .fits), omega (arith, e, front-within, h .room))
+  -- And there is room for a copy up to any block.
+  pub front-fits : {k : ℕ} (t : Table) → k ≡ start n t → (k ≤ length s) × (k ≤ length x)
+  front-fits t e = (omega (arith, e, ends-inside n t, state-room h .fits), omega (arith, e, ends-inside n t, h .room))

@@ -26,7 +26,7 @@ start-requires c κs = search needs
 copy-requires : tie.Need-copy-requires
 copy-requires c κs =
     let p = c .before .before .before .before .before .before .before .before .before .before .before .before .before .before .before .before .before .before .pre in
-    let (read, wrote) = front-fits (p .0) _ _ (p .1) (p .2) (c .start .ensures) in
+    let (read, wrote) = front-fits (p .0) _ _ (p .1) (p .2) _ (c .start .ensures) in
     (read, omega (arith, wrote))
 
 same-length : tie.Need-same-length
