@@ -72,16 +72,17 @@ called s trial list = worth s (replicate trial 7) (replicate list (pos 5))
 unfoldable pub number : List ℕ → ℕ → ℕ → ℕ
 number s trial list = called s trial list .number
 
--- One line, with room to spare: the copy and the line are written, and what stands behind them stays.
-pub call-holds : called (two ++ 9 ∷ []) 43 9
-    ≡ record {
+-- One line, with room to spare: the copy and the line are written, and what stands behind them stays. One node: no line, and the copy is made.
+pub call-holds :
+    (called (two ++ 9 ∷ []) 43 9 ≡ record {
       number = 0;
       answers = 1 ∷ [];
       trial = two ++ 7 ∷ 7 ∷ [];
       list = pos 0 ∷ pos 1 ∷ pos 0 ∷ pos 0 ∷ pos 2 ∷ pos 0 ∷ pos 0 ∷ pos 5 ∷ pos 5 ∷ [];
-    }
+    })
+    × (called (stored (fresh 1)) 9 1 ≡ record { number = 0; answers = 0 ∷ []; trial = stored (fresh 1) ++ 7 ∷ []; list = pos 5 ∷ [] })
 unfolding called two rested linked worth worthDone worthRefusals judge written isSoundAs isSound triples pairs each differ waits readAs deep flat nodes start stored block valueAt destinationAt cube grid size numbers lines line change hops lost trial trialPasses turned fresh delivered made passes total pass linkDown recomputeAll cut linkUp deliver hear recompute send downstreamOf distanceOf least first every joined listed sum loop
-call-holds = refl
+call-holds = (refl, refl)
 
 -- An empty buffer 2, a node count 1, a short state 2, an unsound one 3: entries wait in the last two, and 12 comes after. It comes before a short trial buffer 2 or a short list 2; and a refusal leaves both.
 pub refusals-hold :

@@ -36,7 +36,7 @@ use Rattle.hop_bridge.proofs.Runs.{passes-sound, made-is, delivered-is}
 use Rattle.hop_bridge.proofs.Door.{fine-sound, carried-stored}
 use Rattle.hop_trial.specs.declared.Found.{Found}
 use Rattle.hop_trial.specs.Trial.{Copied, turned, found}
-use Rattle.hop_trial.proofs.Copies.{over, over-written}
+use Rattle.hop_trial.proofs.Copies.{overlaid, overlaid-written}
 
 -- ---- the copy carries the state
 
@@ -135,7 +135,7 @@ module _ {n : ℕ} {s x : List ℕ} (h : Copied n s x) (a b : ℕ) (ascends : a 
   front = start n Lengths
 
   abbrev again : List ℕ
-  again = over s ended front
+  again = overlaid s ended front
 
   front-within : front ≤ size n
   unfolding start size
@@ -234,7 +234,7 @@ module _ {n : ℕ} {s x : List ℕ} (h : Copied n s x) (a b : ℕ) (ascends : a 
             (c ∙ ap (λ y. worth.change n (flat n s Distances) (flat n y Distances)) last),
         copied
             ∙ ap₂ (λ j y. written (take j s) y) at-front last
-            ∙ sym (over-written s ended front (le-trans front-within (state-room h .fits)))
+            ∙ sym (overlaid-written s ended front (le-trans front-within (state-room h .fits)))
             ∙ copied-again,
       )
 

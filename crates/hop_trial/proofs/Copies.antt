@@ -9,17 +9,17 @@ use lib.Seq.{length-take-le, take-suc, drop-cons, append-snoc, set-at}
 use Rattle.hop_rule.specs.Records.{written}
 
 -- The first k bytes of s, and behind them those of x.
-abbrev pub over : List ℕ → List ℕ → ℕ → List ℕ
-over s x k = take k s ++ drop k x
+abbrev pub overlaid : List ℕ → List ℕ → ℕ → List ℕ
+overlaid s x k = take k s ++ drop k x
 
-pub over-turn : (s x : List ℕ) (k : ℕ) → k < length s → k < length x → set (over s x k) k (getD s k 0) ≡ over s x (k + 1)
-over-turn s x k ls lx =
+pub overlaid-turn : (s x : List ℕ) (k : ℕ) → k < length s → k < length x → set (overlaid s x k) k (getD s k 0) ≡ overlaid s x (k + 1)
+overlaid-turn s x k ls lx =
     ap (λ y. set (take k s ++ y) k (getD s k 0)) (drop-cons x k 0 lx)
     ∙ set-at (take k s) (getD x k 0) (drop (suc k) x) (getD s k 0) k (length-take-le k s (le-of-lt ls))
     ∙ sym (append-snoc (take k s) (getD s k 0) (drop (suc k) x))
     ∙ ap (λ y. y ++ drop (suc k) x) (sym (take-suc s k 0 ls))
-    ∙ ap (over s x) (sym (add-one k))
+    ∙ ap (overlaid s x) (sym (add-one k))
 
-pub over-written : (s x : List ℕ) (k : ℕ) → k ≤ length s → over s x k ≡ written (take k s) x
+pub overlaid-written : (s x : List ℕ) (k : ℕ) → k ≤ length s → overlaid s x k ≡ written (take k s) x
 unfolding written
-over-written s x k l = ap (λ m. take k s ++ drop m x) (sym (length-take-le k s l))
+overlaid-written s x k l = ap (λ m. take k s ++ drop m x) (sym (length-take-le k s l))

@@ -5,12 +5,12 @@ use Prim.Native.Nat.{ℕ, _≤_, _-_}
 use native.Mathlib.Nat.{le-antisymm}
 use native.Mathlib.Omega.{arith}
 use lib.ListN.{length, getD, set, length-set}
-use Rattle.hop_trial.proofs.Copies.{over, over-turn, over-written}
+use Rattle.hop_trial.proofs.Copies.{overlaid, overlaid-turn, overlaid-written}
 use Rattle.hop_trial.proofs.copy.Statement.{statement}
 use Rattle.hop_trial.proofs.copy.Tie as tie
 
 abbrev Inv-loop : tie.InvT-loop
-Inv-loop from to₀ k i₀ to i = (i ≤ k) × (length to ≡ length to₀) × (to ≡ over from to₀ i)
+Inv-loop from to₀ k i₀ to i = (i ≤ k) × (length to ≡ length to₀) × (to ≡ overlaid from to₀ i)
 
 abbrev μ-loop : tie.MeasureT-loop
 μ-loop from to₀ k i₀ to i = k - i
@@ -39,7 +39,7 @@ loop-again c =
     let l = c .before .loop-test .taken in (
       omega (arith, l),
       length-set (at-loop .loop .to) (at-loop .loop .i) _ ∙ inv .1,
-      ap (λ (y : List ℕ). set y (at-loop .loop .i) (getD (x .from .now) (at-loop .loop .i) 0)) (inv .2) ∙ over-turn (x .from .now) (x .to .now) (at-loop .loop .i) (omega (arith, l, p .0)) (omega (arith, l, p .1)),
+      ap (λ (y : List ℕ). set y (at-loop .loop .i) (getD (x .from .now) (at-loop .loop .i) 0)) (inv .2) ∙ overlaid-turn (x .from .now) (x .to .now) (at-loop .loop .i) (omega (arith, l, p .0)) (omega (arith, l, p .1)),
     )
 
 same-length : tie.Need-same-length Inv-loop μ-loop
@@ -49,7 +49,7 @@ returns : tie.Need-returns Inv-loop μ-loop
 returns c =
     let x = c .before .before .args in
     let inv = c .before .loop .inv in
-    inv .2 ∙ ap (over (x .from .now) (x .to .now)) (le-antisymm (inv .0) (c .loop-test .left)) ∙ over-written _ _ _ (c .before .before .pre .0)
+    inv .2 ∙ ap (overlaid (x .from .now) (x .to .now)) (le-antisymm (inv .0) (c .loop-test .left)) ∙ overlaid-written _ _ _ (c .before .before .pre .0)
 
 pub copy-spec : {M : Type 1} → statement M
 copy-spec =
