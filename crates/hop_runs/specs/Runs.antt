@@ -1,8 +1,9 @@
 -- What the code does to the bytes in a pass and in a run. Total, as the single events are; on sound bytes each is the rule's.
 -- Used by the code's own definitions; a buyer needs none of it.
 use mathlib.Core.List.{List}
-use Prim.Native.Nat.{ℕ, _+_, _*_}
+use Prim.Native.Nat.{ℕ, _+_, _*_, _/_, _%_}
 use lib.Dec.{eqb}
+use lib.ListN.{getD}
 use Rattle.hop_rule.specs.declared.Table.the-variants.{Lengths}
 use Rattle.hop_rule.specs.Words.{loop, sum, first}
 use Rattle.hop_cells.specs.Cells.{get}
@@ -16,6 +17,10 @@ passBy n noted w s = loop n (λ u. drain n w u (noted (w * n + u))) s
 
 unfoldable pub passFrom : ℕ → List ℕ → ℕ → List ℕ → List ℕ
 passFrom n s₀ w s = passBy n (λ i. get n Lengths i s₀) w s
+
+-- The queue at place i of the lengths, which is that of sender i / n and receiver i % n: it gives up as many entries as are noted there.
+abbrev pub passAt : ℕ → List ℕ → ℕ → List ℕ → List ℕ
+passAt n noted i s = drain n (i / n) (i % n) (getD noted i 0) s
 
 -- 'Pass': the senders, ascending, by the lengths at its start.
 unfoldable pub pass : ℕ → List ℕ → List ℕ

@@ -11,9 +11,11 @@ use borrow.Author.Tests.{eq-eqb, ne-eqb}
 use borrow.Author.Count.{below-none, below-more}
 use Rattle.hop_laws.proofs.Words.{loop-none, loop-turn, sum-none, first-is, first-none}
 use Rattle.hop_cells.proofs.Loops.{sum-turn}
+use Rattle.hop_cells.proofs.Places.{square-most}
 use Rattle.hop_counts.specs.Counts.{queued}
 use Rattle.hop_runs.specs.declared.Ran.{Ran}
 use Rattle.hop_runs.specs.Runs.{passes, made as made-of, delivered, ran, run}
+use Rattle.hop_runs.proofs.Places.{is-pass}
 use Rattle.hop_runs.proofs.run.Statement.{statement}
 use Rattle.hop_runs.proofs.run.Tie as tie
 
@@ -24,29 +26,33 @@ unfolding ran run
 ends n k p d s t m e h = rw m (rw h, e)
 
 abbrev Inv-loop : tie.InvT-loop
-Inv-loop s₀ n k made₀ deliveries₀ s made deliveries =
+Inv-loop s₀ n k noted₀ made₀ deliveries₀ s noted made deliveries =
     (made ≤ k)
     × (length s ≡ length s₀)
     × (deliveries ≤ 408000 * made)
     × (s ≡ passes n made s₀)
     × (deliveries ≡ delivered n made s₀)
     × ((j : ℕ) → j < made → eqb (queued n (passes n j s₀)) 0 ≡ false)
+    × (length noted ≡ 1600)
 
 abbrev μ-loop : tie.MeasureT-loop
-μ-loop s₀ n k made₀ deliveries₀ s made deliveries = k - made
+μ-loop s₀ n k noted₀ made₀ deliveries₀ s noted made deliveries = k - made
 
 loop-holds : tie.Need-loop-holds Inv-loop μ-loop
 unfolding passes delivered
-loop-holds c = (omega arith, refl, omega arith, sym (loop-none _ _), sym (sum-none _), below-none _)
+loop-holds c = (omega arith, refl, omega arith, sym (loop-none _ _), sym (sum-none _), below-none _, refl)
 
-queued-requires : tie.Need-queued-requires Inv-loop μ-loop
-queued-requires c κs = search needs
+slice-aggregate-note : tie.Need-slice-aggregate-note Inv-loop μ-loop
+slice-aggregate-note c = search needs
 
-pass-requires : tie.Need-pass-requires Inv-loop μ-loop
-pass-requires c κs = search needs
+note-requires : tie.Need-note-requires Inv-loop μ-loop
+note-requires c κs = (search needs, omega (arith, square-most (c .before .before .before .before .before .pre .0 .most)))
 
-cast-deliveries : tie.Need-cast-deliveries Inv-loop μ-loop
-cast-deliveries c = search needs
+slice-aggregate-pass-noted : tie.Need-slice-aggregate-pass-noted Inv-loop μ-loop
+slice-aggregate-pass-noted c = search needs
+
+pass-noted-requires : tie.Need-pass-noted-requires Inv-loop μ-loop
+pass-noted-requires c κs = (search needs, omega (arith, square-most (c .before .before .before .before .before .before .before .before .before .before .pre .0 .most)))
 
 add-deliveries : tie.Need-add-deliveries Inv-loop μ-loop
 add-deliveries c = search needs
@@ -61,17 +67,18 @@ loop-again : tie.Need-loop-again Inv-loop μ-loop
 unfolding passes delivered
 loop-again c =
     let at-pass = c .before .before in
-    let at-if1 = at-pass .before .before in
-    let at-queued = at-if1 .before in
-    let at-loop = at-queued .before .before .before in
+    let at-if1 = at-pass .before .before .before in
+    let at-note = at-if1 .before .before in
+    let at-loop = at-note .before .before .before .before in
     let l = at-loop .loop in
-    let q = at-queued .queued in (
+    let q = at-note .note in (
       omega arith,
       omega arith,
       omega arith,
-      loop-turn _ _ _ (l .inv .3) (at-pass .pass .ensures),
+      loop-turn _ _ _ (l .inv .3) (at-pass .pass-noted .ensures ∙ is-pass _ (q .last .1 .1 .0) _ (q .ensures .2)),
       sum-turn _ _ (l .inv .4) (q .ensures .0 ∙ ap (queued _) (l .inv .3)),
       below-more _ _ (l .inv .5) (rw (← l .inv .3, ← q .ensures .0) (ne-eqb _ _ (at-if1 .if1 .left))),
+      omega arith,
     )
 
 same-length : tie.Need-same-length Inv-loop μ-loop
@@ -87,11 +94,11 @@ same-length-2 c = search needs
 returns-2 : tie.Need-returns-2 Inv-loop μ-loop
 unfolding made-of
 returns-2 c =
-    let at-queued = c .before in
-    let at-loop-test = at-queued .before .before in
+    let at-note = c .before .before in
+    let at-loop-test = at-note .before .before .before in
     let at-loop = at-loop-test .before in
     let l = at-loop .loop in
-    ends _ _ _ _ _ _ (first-is _ _ _ (at-loop-test .loop-test .taken) (rw (← l .inv .3, ← at-queued .queued .ensures .0) (eq-eqb _ _ (c .if1 .taken))) (l .inv .5)) (l .inv .3) (l .inv .4)
+    ends _ _ _ _ _ _ (first-is _ _ _ (at-loop-test .loop-test .taken) (rw (← l .inv .3, ← at-note .note .ensures .0) (eq-eqb _ _ (c .if1 .taken))) (l .inv .5)) (l .inv .3) (l .inv .4)
 
 pub run-spec : {M : Type 1} → statement M
 run-spec =
@@ -100,9 +107,10 @@ run-spec =
     Inv-loop
     μ-loop
     loop-holds
-    queued-requires
-    pass-requires
-    cast-deliveries
+    slice-aggregate-note
+    note-requires
+    slice-aggregate-pass-noted
+    pass-noted-requires
     add-deliveries
     add-made
     loop-less
