@@ -1,6 +1,7 @@
 /* drive.c: the calls from C through hop.h, on buffers of exact size from malloc, for valgrind and the sanitizers.
  * Uses hop.h and the C library. Memory is left as malloc gives it wherever no byte may be read: a make in it, the
- * bytes behind a state, an output, a trial, a list. What the answers should be is the comparison's matter; here a few are looked at.
+ * bytes behind a state, an output, a trial, a list. What the answers should be is the comparison's matter; here a
+ * few are looked at.
  */
 #include "hop.h"
 

@@ -36,11 +36,11 @@ abbrev pub Wrote : Outcome → HopAnswer → List ℕ → Type 0
 Wrote o a left = (a ≡ answer o) × (left ≡ o .output)
 
 -- The same for the result of R-1's call: the struct, the trial buffer and the list.
-abbrev pub valued : Valued → HopAnswer
-valued v = record { code = v .number; value = getD (v .answers) 0 0 }
+abbrev pub worthAnswer : Valued → HopAnswer
+worthAnswer v = record { code = v .number; value = getD (v .answers) 0 0 }
 
 abbrev pub Worth : Valued → HopAnswer → List ℕ → List ℤ → Type 0
-Worth v a trial list = (a ≡ valued v) × (trial ≡ v .trial) × (list ≡ v .list)
+Worth v a trial list = (a ≡ worthAnswer v) × (trial ≡ v .trial) × (list ≡ v .list)
 
 -- What was read, as a C caller gets it: the number, the kind and its two numbers; what there is not is 0, so kind 0 is the plain end or a refusal.
 abbrev pub event : ℕ → List ℕ → HopEvent

@@ -70,6 +70,9 @@ diff-fits x (suc y) l k = record { sfits = either (λ z. mag z < 2147483648) (lt
 pub small : (x : ℕ) → x ≤ 64000 → toZ w32 x ≡ pos x
 small x l = toZ-ofZ w32 (pos x) (record { sfits = omega arith })
 
+pub bytes-fit : (x y : ℕ) → x ≤ 64000 → y ≤ 64000 → SFits w32 (toZ w32 x -ℤ toZ w32 y)
+bytes-fit x y l k = rw (small x l, small y k) (diff-fits x y l k)
+
 -- A signed number that goes through 32 bits.
 pub signed-kept : (z : ℤ) → natAbs z ≤ 64000 → toZ w32 (ofZ w32 z) ≡ z
 signed-kept (pos k) l = toZ-ofZ w32 (pos k) (record { sfits = omega (arith, l) })
@@ -89,17 +92,13 @@ module _ (n : ℕ) (s t : List ℕ) (i : ℕ) {m b a : ℕ} (em : m ≡ n) (eb :
       let one = rw (em, ea, eb) at h in
       (one, and-back (ltb (get n Distances i s) n) (ltb (get n Distances i t) n) ∙ one)
 
-  module _ (few : n ≤ 40) (h : ltb a m && ltb b m ≡ true) where
-    below : (a ≤ 64000) × (b ≤ 64000)
-    below = let l = tells-and (tells-lt a m) (tells-lt b m) .shows h in (omega (arith, l .0, em), omega (arith, l .1, em))
-
-    pub change-one-fits : SFits w32 (toZ w32 a -ℤ toZ w32 b)
-    change-one-fits = rw (small a (below .0), small b (below .1)) (diff-fits a b (below .0) (below .1))
-
-    pub change-one : toZ w32 (ofZ w32 (toZ w32 a -ℤ toZ w32 b)) ≡ pos (hopsAt n t s i) -ℤ pos (hopsAt n s t i)
-    change-one =
-        let (after, before) = tested h in
-        toZ-ofZ w32 _ change-one-fits ∙ rw (small a (below .0), small b (below .1), hops-both n t s i after, hops-both n s t i before, ea, eb)
+  -- z is the difference that was taken.
+  pub change-one : n ≤ 40 → ltb a m && ltb b m ≡ true → {z : ℤ} → z ≡ pos a -ℤ pos b → toZ w32 (ofZ w32 z) ≡ pos (hopsAt n t s i) -ℤ pos (hopsAt n s t i)
+  change-one few h {z} e =
+      let (la, lb) = tells-and (tells-lt a m) (tells-lt b m) .shows h in
+      let fits = diff-fits a b (omega (arith, la, em)) (omega (arith, lb, em)) in
+      let (after, before) = tested h in
+      toZ-ofZ w32 z (subst (SFits w32) (sym e) fits) ∙ e ∙ rw (hops-both n t s i after, hops-both n s t i before, ea, eb)
 
   pub change-one-none : ltb a m && ltb b m ≡ false → pos 0 ≡ pos (hopsAt n t s i) -ℤ pos (hopsAt n s t i)
   change-one-none h = let (after, before) = tested h in rw (hops-not n t s i after, hops-not n s t i before) refl

@@ -44,6 +44,13 @@ pub fn lost(before: &[u8], after: &[u8], n: usize) -> u32
     sum
 }
 
+// One byte less another.
+fn minus(a: u8, b: u8) -> i32
+    ensures { λ r. ⌜ r ≡ pos a -ℤ pos b ⌝ }
+{
+    (a as i32) - (b as i32)
+}
+
 // After minus before where the pair at place i has a route both times, and otherwise 0.
 fn change_at(before: &[u8], after: &[u8], n: usize, i: usize) -> i32
     requires { ⌜ Room n (now before) × Room n (now after) × (i < n * n) ⌝ }
@@ -53,7 +60,7 @@ fn change_at(before: &[u8], after: &[u8], n: usize, i: usize) -> i32
     let b = get(before, n, Table::Distances, i);
     let a = get(after, n, Table::Distances, i);
     if (a < m) & (b < m) {
-        return (a as i32) - (b as i32);
+        return minus(a, b);
     }
     0
 }

@@ -87,11 +87,11 @@ unfoldable pub numbers : List Line → List ℤ
 numbers [] = []
 numbers (l ∷ ls) = seven l ++ numbers ls
 
--- ---- the call, on a buffer s that holds the state, a trial buffer and a list
+-- ---- the call, on a buffer s that holds the state, a second buffer and a list
 
 -- 12, the state is not at rest, judged before 2 for a trial buffer or a list that is too short.
 unfoldable pub worthRefusals : List ℕ → List ℕ → List ℤ → List Refusal
-worthRefusals s trial list = onState s (notAtRest s ∷ short trial (size (nodes s)) ∷ short list (length (numbers (lines (read s)))) ∷ [])
+worthRefusals s buffer list = onState s (notAtRest s ∷ short buffer (size (nodes s)) ∷ short list (length (numbers (lines (read s)))) ∷ [])
 
 -- What it gives: its number, the number of lines (nothing where it is refused), and the trial buffer and the list as it leaves them. The state's own bytes stay as they are.
 pub record Valued : Type 0 where
@@ -102,15 +102,15 @@ pub record Valued : Type 0 where
 
 -- The trial buffer ends with a copy of the state, and the list begins with the lines; what stands behind them stays.
 unfoldable pub worthDone : List ℕ → List ℕ → List ℤ → Valued
-worthDone s trial list = record {
+worthDone s buffer list = record {
   number = 0;
   answers = length (lines (read s)) ∷ [];
-  trial = written (take (size (nodes s)) s) trial;
+  trial = written (take (size (nodes s)) s) buffer;
   list = written (numbers (lines (read s))) list;
 }
 
 unfoldable pub worth : List ℕ → List ℕ → List ℤ → Valued
-worth s trial list =
-    let r = judge (worthRefusals s trial list) in
-    let done = worthDone s trial list in
-    if eqb r 0 then done else record { number = r; answers = []; trial = trial; list = list }
+worth s buffer list =
+    let r = judge (worthRefusals s buffer list) in
+    let done = worthDone s buffer list in
+    if eqb r 0 then done else record { number = r; answers = []; trial = buffer; list = list }

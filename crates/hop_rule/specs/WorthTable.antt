@@ -1,4 +1,4 @@
--- 02, R-1: the lines of small sites, and the call's answers, as two tables with a statement over each. Uses Worth.
+-- 02, R-1: the lines of small sites, as one table with a single statement over it; and what the call gives, done and refused. Uses Worth.
 use mathlib.Core.Path.{_≡_, refl}
 use mathlib.Core.List.{List, [], _∷_, _++_, map}
 use Prim.Native.Nat.{ℕ}

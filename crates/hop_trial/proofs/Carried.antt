@@ -4,6 +4,7 @@ use mathlib.Core.Bool.{Bool, true, false, cond}
 use mathlib.Core.List.{List, [], _++_}
 use Prim.Native.Nat.{ℕ, _+_, _*_, _-_, _≤_, _<_}
 use native.Mathlib.Nat.{le-trans}
+use native.Mathlib.Decide.{decLt}
 use native.Mathlib.Omega.{arith}
 use lib.Dec.{eqb, lit≤}
 use lib.IntN.{ℤ}
@@ -130,44 +131,6 @@ module _ {n : ℕ} {s x : List ℕ} (h : Copied n s x) (a b : ℕ) (ascends : a 
       let sum : change ≡ line .change = c ∙ change-same n _ _ _ _ before after ∙ ap (λ m. worth.change m (read s .distance) (worth.trial (read s) a b .distance)) (h .claim) in
       rw (did, l ∙ lost-same n _ _ _ _ before after ∙ few, g ∙ lost-same n _ _ _ _ after before ∙ more, sum, whole)
 
-  -- The front of the state, up to the lengths, written over the bytes after the run.
-  abbrev front : ℕ
-  front = start n Lengths
-
-  abbrev again : List ℕ
-  again = overlaid s ended front
-
-  front-within : front ≤ size n
-  unfolding start size
-  front-within = omega arith
-
-  front-length : length (take front s) ≡ front
-  front-length = length-take-le front s (le-trans front-within (carried h .carries .filled .room .fits))
-
-  ended-room : size n ≤ length ended
-  ended-room = ends .carries .filled .room .fits
-
-  -- Its bytes: below the lengths the state's, from there on those after the run.
-  below : (i : ℕ) → i < front → getD again i 0 ≡ getD s i 0
-  below i l = List·getD-append (take front s) (drop front ended) 0 i (omega (arith, front-length)) ∙ getD-take front s i 0 l
-
-  behind : (i : ℕ) → front ≤ i → getD again i 0 ≡ getD ended i 0
-  behind i l =
-      let e : i ≡ length (take front s) + (i - front) = omega (arith, front-length) in
-      let f : front + (i - front) ≡ i = omega arith in
-      ap (λ j. getD again j 0) e ∙ getD-append-add (take front s) (drop front ended) (i - front) 0 ∙ getD-drop front ended (i - front) 0 ∙ ap (λ j. getD ended j 0) f
-
-  -- Behind the form they are those of the copy.
-  tail : drop (size n) again ≡ drop (size n) x
-  tail =
-      let e : size n ≡ length (take front s) + (size n - front) = omega (arith, front-length, front-within) in
-      let f : front + (size n - front) ≡ size n = omega (arith, front-within) in
-      ap (λ j. drop j again) e
-      ∙ drop-append-add (take front s) (drop front ended) (size n - front)
-      ∙ drop-drop (size n - front) front ended
-      ∙ ap (λ j. drop j ended) f
-      ∙ ends .carries .filled .tail
-
   -- No entry waits before or after.
   none-before : (w u : ℕ) → w < n → u < n → read s .queue w u ≡ []
   unfolding readAs
@@ -182,50 +145,99 @@ module _ {n : ℕ} {s x : List ℕ} (h : Copied n s x) (a b : ℕ) (ascends : a 
       same : worth.trial (read s) a b .n ≡ n
       same = ends .carries .orderly .count
 
-  -- So it carries the state that the copy carried, and is the copy.
-  again-carries : Carries n (drop (size n) x) again (read s)
-  unfolding get nodes start destinationAt valueAt
-  again-carries = record {
-    orderly = carried h .carries .orderly;
-    filled = record {
-      room = record { most = carried h .carries .filled .room .most; fits = room };
-      head = below 0 (omega arith) ∙ carried h .carries .filled .head;
-      tail = tail;
-      flats = by-flat (λ k. (w u : ℕ) → w < n → u < n → getD again (start n k + (w * n + u)) 0 ≡ flatOf (read s) k w u)
-          (λ w u lw lu. below-flat Links tt (omega arith) w u lw lu)
-          (λ w u lw lu. below-flat Distances tt (omega arith) w u lw lu)
-          (λ w u lw lu. below-flat Downstreams tt (omega arith) w u lw lu)
-          (λ w u lw lu. behind (start n Lengths + (w * n + u)) (omega arith) ∙ ends .carries .filled .flats Lengths tt w u lw lu ∙ ap length (none-after w u lw lu ∙ sym (none-before w u lw lu)));
-      deeps = by-deep (λ k. (w u v : ℕ) → w < n → u < n → v < n → getD again (start n k + ((w * n + u) * n + v)) 0 ≡ deepOf (read s) k w u v)
-          (λ w u v lw lu lv. below (start n Views + ((w * n + u) * n + v)) (omega (arith, before-lengths Views (omega arith) (deep-in Views tt lw lu lv))) ∙ carried h .carries .filled .deeps Views tt w u v lw lu lv)
-          (λ w u v lw lu lv. behind (start n Destinations + ((w * n + u) * n + v)) (omega arith) ∙ ends .carries .filled .deeps Destinations tt w u v lw lu lv ∙ ap (λ q. destinationAt q v) (none-after w u lw lu ∙ sym (none-before w u lw lu)))
-          (λ w u v lw lu lv. behind (start n Values + ((w * n + u) * n + v)) (omega arith) ∙ ends .carries .filled .deeps Values tt w u v lw lu lv ∙ ap (λ q. valueAt q v) (none-after w u lw lu ∙ sym (none-before w u lw lu)));
-    };
-  }
-    where
-      room : size n ≤ length again
-      room = omega (arith, length-append (take front s) (drop front ended), front-length, length-drop front ended, ended-room, front-within)
+  none-changed : (w u : ℕ) → w < n → u < n → worth.trial (read s) a b .queue w u ≡ read s .queue w u
+  none-changed w u lw lu = none-after w u lw lu ∙ sym (none-before w u lw lu)
 
-      before-lengths : (k : Table) → rank k < 4 → {i : ℕ} → i < cells n k → start n k + i < front
-      before-lengths k l b = omega (arith, ends-before n k Lengths l)
+  -- The front of the state, up to a block of queues, written over the bytes after the run.
+  module _ (t : Table) (late : 4 ≤ rank t) where
+    abbrev front : ℕ
+    front = start n t
 
-      below-flat : (k : Table) → Flat k → rank k < 4 → (w u : ℕ) → w < n → u < n → getD again (start n k + (w * n + u)) 0 ≡ flatOf (read s) k w u
-      below-flat k f l w u lw lu = below (start n k + (w * n + u)) (before-lengths k l (flat-in k f lw lu)) ∙ carried h .carries .filled .flats k f w u lw lu
+    abbrev again : List ℕ
+    again = overlaid s ended front
 
-  copied-again : again ≡ x
-  copied-again = carried-stored again-carries ∙ sym (carried-stored (copied-carries h .carries))
+    front-within : front ≤ size n
+    front-within = omega (arith, ends-inside n t)
+
+    front-length : length (take front s) ≡ front
+    front-length = length-take-le front s (le-trans front-within (state-room h .fits))
+
+    -- Its bytes: in front the state's, from there on those after the run.
+    below : (i : ℕ) → i < front → getD again i 0 ≡ getD s i 0
+    below i l = List·getD-append (take front s) (drop front ended) 0 i (omega (arith, front-length)) ∙ getD-take front s i 0 l
+
+    behind : (i : ℕ) → front ≤ i → getD again i 0 ≡ getD ended i 0
+    behind i l =
+        let e : i ≡ length (take front s) + (i - front) = omega (arith, front-length) in
+        let f : front + (i - front) ≡ i = omega arith in
+        ap (λ j. getD again j 0) e ∙ getD-append-add (take front s) (drop front ended) (i - front) 0 ∙ getD-drop front ended (i - front) 0 ∙ ap (λ j. getD ended j 0) f
+
+    -- What both have at a place, it has there.
+    in-both : (i : ℕ) {y : ℕ} → getD s i 0 ≡ y → getD ended i 0 ≡ y → getD again i 0 ≡ y
+    in-both i {y} e f = go (decLt i front)
+      where
+        go : Dec (i < front) → getD again i 0 ≡ y
+        go (yes l) = below i l ∙ e
+        go (no l) = behind i (omega arith) ∙ f
+
+    -- Behind the form they are those of the copy.
+    tail : drop (size n) again ≡ drop (size n) x
+    tail =
+        let e : size n ≡ length (take front s) + (size n - front) = omega (arith, front-length, front-within) in
+        let f : front + (size n - front) ≡ size n = omega (arith, front-within) in
+        ap (λ j. drop j again) e
+        ∙ drop-append-add (take front s) (drop front ended) (size n - front)
+        ∙ drop-drop (size n - front) front ended
+        ∙ ap (λ j. drop j ended) f
+        ∙ ends .carries .filled .tail
+
+    -- The blocks before the queues lie in front.
+    in-front : (k : Table) → rank k < 4 → {i : ℕ} → i < cells n k → start n k + i < front
+    in-front k l b = omega (arith, ends-before n k t (omega (arith, late)))
+
+    front-flat : (k : Table) → Flat k → rank k < 4 → (w u : ℕ) → w < n → u < n → getD again (start n k + (w * n + u)) 0 ≡ flatOf (read s) k w u
+    unfolding get
+    front-flat k f l w u lw lu = below (start n k + (w * n + u)) (in-front k l (flat-in k f lw lu)) ∙ carried h .carries .filled .flats k f w u lw lu
+
+    -- So it carries the state that the copy carried, and is the copy.
+    again-carries : Carries n (drop (size n) x) again (read s)
+    unfolding get nodes
+    again-carries = record {
+      orderly = carried h .carries .orderly;
+      filled = record {
+        room = record { most = state-room h .most; fits = room };
+        head = in-both 0 (carried h .carries .filled .head) (ends .carries .filled .head);
+        tail = tail;
+        flats = by-flat (λ k. (w u : ℕ) → w < n → u < n → getD again (start n k + (w * n + u)) 0 ≡ flatOf (read s) k w u)
+            (front-flat Links tt (omega arith))
+            (front-flat Distances tt (omega arith))
+            (front-flat Downstreams tt (omega arith))
+            (λ w u lw lu. in-both (start n Lengths + (w * n + u)) (carried h .carries .filled .flats Lengths tt w u lw lu) (ends .carries .filled .flats Lengths tt w u lw lu ∙ ap length (none-changed w u lw lu)));
+        deeps = by-deep (λ k. (w u v : ℕ) → w < n → u < n → v < n → getD again (start n k + ((w * n + u) * n + v)) 0 ≡ deepOf (read s) k w u v)
+            (λ w u v lw lu lv. below (start n Views + ((w * n + u) * n + v)) (in-front Views (omega arith) (deep-in Views tt lw lu lv)) ∙ carried h .carries .filled .deeps Views tt w u v lw lu lv)
+            (λ w u v lw lu lv. in-both (start n Destinations + ((w * n + u) * n + v)) (carried h .carries .filled .deeps Destinations tt w u v lw lu lv) (ends .carries .filled .deeps Destinations tt w u v lw lu lv ∙ ap (λ q. destinationAt q v) (none-changed w u lw lu)))
+            (λ w u v lw lu lv. in-both (start n Values + ((w * n + u) * n + v)) (carried h .carries .filled .deeps Values tt w u v lw lu lv) (ends .carries .filled .deeps Values tt w u v lw lu lv ∙ ap (λ q. valueAt q v) (none-changed w u lw lu)));
+      };
+    }
+      where
+        room : size n ≤ length again
+        room = omega (arith, length-append (take front s) (drop front ended), front-length, length-drop front ended, ends .carries .filled .room .fits, front-within)
+
+    copied-again : again ≡ x
+    copied-again = carried-stored again-carries ∙ sym (carried-stored (copied-carries h .carries))
 
   -- The whole trial, from the bytes that each part of the code leaves: x₁ after the turn, x₂ after the run, x₃ after the copy.
-  pub trial-done : {x₁ x₂ x₃ : List ℕ} {ran : Ran} {lost gained k : ℕ} {change : ℤ}
+  pub trial-done : {x₁ x₂ x₃ : List ℕ} {ran : Ran} {lost gained k : ℕ} {change : ℤ} (t : Table)
       → x₁ ≡ turned n a b x
       → (ran ≡ runs.ran n 255 x₁) × (x₂ ≡ runs.run n 255 x₁)
       → lost ≡ worth.lost n (flat n s Distances) (flat n x₂ Distances)
       → gained ≡ worth.lost n (flat n x₂ Distances) (flat n s Distances)
       → change ≡ worth.change n (flat n s Distances) (flat n x₂ Distances)
-      → k ≡ front
+      → k ≡ start n t
       → x₃ ≡ written (take k s) x₂
+      → 4 ≤ rank t
       → (record { passes = ran .passes; deliveries = ran .deliveries; lost = lost; gained = gained; change = toZ w32 (ofZ w32 change) } ≡ found line) × (x₃ ≡ x)
-  trial-done e (did, left) l g c at-front copied =
+  trial-done t e (did, left) l g c at-front copied late =
       let last = left ∙ ap (runs.run n 255) e in (
         tells
             (did ∙ ap (runs.ran n 255) e)
@@ -234,8 +246,8 @@ module _ {n : ℕ} {s x : List ℕ} (h : Copied n s x) (a b : ℕ) (ascends : a 
             (c ∙ ap (λ y. worth.change n (flat n s Distances) (flat n y Distances)) last),
         copied
             ∙ ap₂ (λ j y. written (take j s) y) at-front last
-            ∙ sym (overlaid-written s ended front (le-trans front-within (state-room h .fits)))
-            ∙ copied-again,
+            ∙ sym (overlaid-written s ended (start n t) (le-trans (front-within t late) (state-room h .fits)))
+            ∙ copied-again t late,
       )
 
   -- And there is room for a copy up to any block.

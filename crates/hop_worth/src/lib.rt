@@ -1,4 +1,4 @@
-// What each link is worth (02, R-1): the lines of all pairs, ascending, and the public call. It counts on nothing.
+// What each link is worth (02, R-1): the lines of all pairs, ascending, and the public call, which does not count on its caller.
 
 use hop_ask::Answer;
 use hop_cells::size;
@@ -74,15 +74,15 @@ fn all_lines(s: &[u8], x: &mut [u8], list: &mut [i32], n: usize) -> usize
     k
 }
 
-// What each link is worth: the number of lines written. The trial buffer ends with a copy of the state. Refuses 2, 1, 2, 3, 12, 2.
-pub fn worth(s: &[u8], trial: &mut [u8], list: &mut [i32]) -> Answer
-    ensures { λ r. ⌜ Worth (now (s .entry)) (now (trial .entry)) (now (list .entry)) r (now (trial .exit)) (now (list .exit)) ⌝ }
+// What each link is worth: the number of lines written. The second buffer ends with a copy of the state. Refuses 2, 1, 2, 3, 12, 2.
+pub fn worth(s: &[u8], buffer: &mut [u8], list: &mut [i32]) -> Answer
+    ensures { λ r. ⌜ Worth (now (s .entry)) (now (buffer .entry)) (now (list .entry)) r (now (buffer .exit)) (now (list .exit)) ⌝ }
 {
-    match judge_worth(s, trial, list) {
+    match judge_worth(s, buffer, list) {
         Judged::Refused(c) => Answer::Refused(c),
         Judged::Go(n) => {
-            copy(s, trial, size(n));
-            let k = all_lines(s, trial, list, n);
+            copy(s, buffer, size(n));
+            let k = all_lines(s, buffer, list, n);
             Answer::Value(k as u32)
         }
     }

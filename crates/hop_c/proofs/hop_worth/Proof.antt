@@ -2,7 +2,7 @@
 use mathlib.Core.Path.{ap, _∙_}
 use borrow.Author.Needs.{needs}
 use Rattle.hop_rule.specs.Worth.{Valued}
-use Rattle.hop_c.specs.Edge.{valued}
+use Rattle.hop_c.specs.Edge.{worthAnswer}
 use Rattle.hop_c.proofs.hop_worth.Statement.{statement}
 use Rattle.hop_c.proofs.hop_worth.Tie as tie
 
@@ -21,7 +21,7 @@ same-length-2 c = search needs
 returns : tie.Need-returns
 returns c =
     let did = c .before .before .before .before .worth .ensures in
-    (c .plain-answer .ensures ∙ ap valued did, ap (λ (v : Valued). v .trial) did, ap (λ (v : Valued). v .list) did)
+    (c .plain-answer .ensures ∙ ap worthAnswer did, ap (λ (v : Valued). v .trial) did, ap (λ (v : Valued). v .list) did)
 
 pub hop-worth-spec : {M : Type 1} → statement M
 hop-worth-spec = tie.close (tie.spec worth-requires plain-answer-requires same-length same-length-2 returns)

@@ -40,7 +40,7 @@ returns c =
     let at-run = at-lost .before .before .before .before in
     let at-turn = at-run .before .before .before .before in
     let p = at-turn .before .before .before .before .pre in
-    trial-done (p .0) _ _ (p .1) (p .2)
+    trial-done (p .0) _ _ (p .1) (p .2) _
     (at-turn .turn .ensures)
     (at-run .run .ensures)
     (at-lost .lost .ensures .0)
@@ -48,6 +48,7 @@ returns c =
     (at-change .change .ensures)
     (at-copy .before .start .ensures)
     (at-copy .copy .ensures)
+    (omega arith)
 
 pub trial-spec : {M : Type 1} → statement M
 trial-spec =
