@@ -2,9 +2,10 @@
 -- Used by the code's own definitions; a buyer needs none of it.
 use mathlib.Core.Bool.{Bool, _&&_}
 use mathlib.Core.List.{List}
-use Prim.Native.Nat.{ℕ, _+_, _-_, min}
+use mathlib.Core.Path.{_≡_}
+use Prim.Native.Nat.{ℕ, _+_, _-_, _≤_, min}
 use lib.Dec.{eqb, ltb}
-use lib.ListN.{set}
+use lib.ListN.{getD, set}
 use Rattle.hop_rule.specs.declared.Table.{Table}
 use Rattle.hop_rule.specs.declared.Table.the-variants.{Links, Distances, Downstreams, Views, Lengths, Destinations, Values}
 use Rattle.hop_rule.specs.Words.{if_then_else_, loop}
@@ -43,6 +44,30 @@ recompute n u v s =
     let b = best n u v s in
     let stored = store n u v b s in
     if eqb u v then s else (if eqb (b .distance) (get2 n Distances u v s) then stored else tell n u v (b .distance) stored)
+
+-- The same with what is found handed in.
+unfoldable pub renew : ℕ → ℕ → ℕ → Best → List ℕ → List ℕ
+renew n u v b s =
+    let stored = store n u v b s in
+    if eqb u v then s else (if eqb (b .distance) (get2 n Distances u v s) then stored else tell n u v (b .distance) stored)
+
+-- The best of all destinations side by side: the least view of v so far stands in one row, and the neighbour that gave it in the other.
+abbrev pub at : List ℕ → List ℕ → ℕ → Best
+at views from v = record { distance = getD views v 0 + 1; downstream = getD from v 0 }
+
+abbrev pub choose : ℕ → ℕ → ℕ → ℕ → ℕ
+choose d c a b = if ltb d c then a else b
+
+-- Both rows after neighbour w is looked at for v.
+abbrev pub lesser : ℕ → ℕ → ℕ → ℕ → List ℕ → List ℕ → List ℕ
+lesser n u w v s views = set views v (choose (get3 n Views u w v s) (getD views v 0) (get3 n Views u w v s) (getD views v 0))
+
+abbrev pub giver : ℕ → ℕ → ℕ → ℕ → List ℕ → List ℕ → List ℕ → List ℕ
+giver n u w v s views from = set from v (choose (get3 n Views u w v s) (getD views v 0) w (getD from v 0))
+
+-- What the rows have for v is what they had, one neighbour further; and no view has grown.
+abbrev pub Looked : ℕ → ℕ → ℕ → List ℕ → List ℕ → List ℕ → List ℕ → List ℕ → ℕ → Type 0
+Looked n u w s views from views′ from′ v = (at views′ from′ v ≡ nearer n u v s w (at views from v)) × (getD views′ v 0 ≤ getD views v 0)
 
 -- u's view of v from w has become d, and u settles v by that view alone: it is nearer than all others, or as near as they are over a lower neighbour; it grew and was the one to go by, so that the others are looked at; or nothing changes.
 unfoldable pub settle : ℕ → ℕ → ℕ → ℕ → ℕ → List ℕ → List ℕ

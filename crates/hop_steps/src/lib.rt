@@ -2,6 +2,7 @@
 
 use hop_cells::cube;
 use hop_cells::fill;
+use hop_cells::get;
 use hop_cells::get2;
 use hop_cells::get3;
 use hop_cells::least;
@@ -19,8 +20,8 @@ use hop_queues::send;
 use hop_queues::take_first;
 use hop_rule::Table;
 ghost use mathlib.Core.Path.{_≡_};
-ghost use Prim.Native.Nat.{_+_, _*_, _<_, _≤_};
-ghost use lib.ListN.{length, set};
+ghost use Prim.Native.Nat.{ℕ, _+_, _*_, _<_, _≤_};
+ghost use lib.ListN.{length, getD, set};
 ghost use Rattle.hop_rule.specs.declared.Table.the-variants.{Views};
 ghost use Rattle.hop_cells.specs.Cells.{Room, cells, put3};
 ghost use Rattle.hop_steps.specs.Steps as step;
@@ -92,7 +93,22 @@ fn tell(s: &mut [u8], n: usize, u: usize, v: usize, d: u8)
     }
 }
 
-// Recompute of v at u. If the distance changed, it is told.
+// What is found for v at u is stored. If the distance changed, it is told.
+fn renew(s: &mut [u8], n: usize, u: usize, v: usize, b: Best)
+    requires { ⌜ Room n (now s) × (u < n) × (v < n) ⌝ }
+    ensures { λ r. ⌜ now (s .exit) ≡ step.renew n u v b (now (s .entry)) ⌝ }
+{
+    if u == v {
+        return;
+    }
+    let old = get2(s, n, Table::Distances, u, v);
+    store(s, n, u, v, b);
+    if wide(b.distance) != old {
+        tell(s, n, u, v, b.distance);
+    }
+}
+
+// Recompute of v at u.
 pub fn recompute(s: &mut [u8], n: usize, u: usize, v: usize)
     requires { ⌜ Room n (now s) × (u < n) × (v < n) ⌝ }
     ensures { λ r. ⌜ now (s .exit) ≡ step.recompute n u v (now (s .entry)) ⌝ }
@@ -100,12 +116,8 @@ pub fn recompute(s: &mut [u8], n: usize, u: usize, v: usize)
     if u == v {
         return;
     }
-    let old = get2(s, n, Table::Distances, u, v);
     let b = find_best(s, n, u, v);
-    store(s, n, u, v, b);
-    if wide(b.distance) != old {
-        tell(s, n, u, v, b.distance);
-    }
+    renew(s, n, u, v, b);
 }
 
 // The view of v from w has become d. Only if it grew and was the one to go by are the others looked at.
@@ -219,13 +231,62 @@ fn cut_end(s: &mut [u8], n: usize, u: usize, w: usize)
     empty(s, n, u, w);
 }
 
-// u recomputes every destination, in ascending order.
+// a where d is less than c, and otherwise b.
+fn choose(d: u8, c: u8, a: u8, b: u8) -> u8
+    ensures { λ r. ⌜ r ≡ step.choose d c a b ⌝ }
+{
+    if d < c { a } else { b }
+}
+
+// Neighbour w is looked at for v: `views` has the least view so far, and `from` the neighbour that gave it.
+fn nearer_at(s: &[u8], n: usize, u: usize, w: usize, v: usize, views: &mut [u8], from: &mut [u8])
+    requires { ⌜ Room n (now s) × (u < n) × (w < n) × (v < n) × (n ≤ length (now views)) × (n ≤ length (now from)) ⌝ }
+    ensures { λ r. ⌜ (now (views .exit) ≡ step.lesser n u w v (now (s .entry)) (now (views .entry))) × (now (from .exit) ≡ step.giver n u w v (now (s .entry)) (now (views .entry)) (now (from .entry))) ⌝ }
+{
+    let d = get(s, n, Table::Views, triple(n, u, w, v));
+    let c = views[v];
+    let x = from[v];
+    views[v] = choose(d, c, d, c);
+    from[v] = choose(d, c, w as u8, x);
+}
+
+// And for all destinations, if the link is up: along a row of views, in a loop that compiles to vector instructions.
+fn nearer_row(s: &[u8], n: usize, u: usize, w: usize, views: &mut [u8], from: &mut [u8])
+    requires { ⌜ Room n (now s) × (u < n) × (w < n) × (n ≤ length (now views)) × (n ≤ length (now from)) ⌝ }
+    ensures { λ r. ⌜ ((v : ℕ) → v < n → step.Looked n u w (now (s .entry)) (now (views .entry)) (now (from .entry)) (now (views .exit)) (now (from .exit)) v) ⌝ }
+{
+    if get2(s, n, Table::Links, u, w) != 1 {
+        return;
+    }
+    for v in 0..n {
+        nearer_at(s, n, u, w, v, views, from);
+    }
+}
+
+// The best for every destination.
+fn find_all(s: &[u8], n: usize, u: usize, views: &mut [u8], from: &mut [u8])
+    requires { ⌜ Room n (now s) × (u < n) × (n ≤ length (now views)) × (n ≤ length (now from)) × ((v : ℕ) → v < n → (getD (now views) v 0 + 1 ≡ n) × (getD (now from) v 0 ≡ 255)) ⌝ }
+    ensures { λ r. ⌜ ((v : ℕ) → v < n → (step.at (now (views .exit)) (now (from .exit)) v ≡ step.best n u v (now (s .entry))) × (getD (now (views .exit)) v 0 < n)) ⌝ }
+{
+    for w in 0..n {
+        nearer_row(s, n, u, w, views, from);
+    }
+}
+
+// u recomputes every destination, in ascending order. What is found for one does not depend on what is stored and told of another.
 fn recompute_all(s: &mut [u8], n: usize, u: usize)
     requires { ⌜ Room n (now s) × (u < n) ⌝ }
     ensures { λ r. ⌜ now (s .exit) ≡ step.recomputeAll n u (now (s .entry)) ⌝ }
 {
+    let mut views = [(n - 1) as u8; 40];
+    let mut from = [255u8; 40];
+    find_all(s, n, u, &mut views, &mut from);
     for v in 0..n {
-        recompute(s, n, u, v);
+        let b = Best {
+            distance: views[v] + 1,
+            downstream: from[v],
+        };
+        renew(s, n, u, v, b);
     }
 }
 
