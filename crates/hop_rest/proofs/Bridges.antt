@@ -1,16 +1,16 @@
--- One link more, as R-1 tries it: t has the links of s and that of a and b besides. No hop count is larger in t, and that of a and b is smaller. Where s joins a and b, it joins all that t joins, going round; where it does not, the link shortens no route of s. Assumes nothing.
+-- One link more, as R-1 tries it: t has the links of s and that of a and b besides. No hop count is larger in t, and that of a and b is smaller. Where s joins a and b, it joins all that t joins, going round; where it does not, the link joins pairs and shortens no route of s. Assumes nothing.
 use mathlib.Core.Path.{_≡_, refl, sym, subst, _∙_}
 use mathlib.Core.Logic.{_⊎_, inl, inr, _≢_}
 use Prim.Native.Nat.{ℕ, suc, _≤_, _<_}
-use native.Mathlib.Nat.{le-refl}
+use native.Mathlib.Nat.{le-refl, le-of-eq}
 use native.Mathlib.Omega.{arith}
 use Rattle.hop_rule.specs.State.{State}
 use Rattle.hop_rule.specs.Worth.{lost, hops}
 use Rattle.hop_laws.proofs.Tests.{decides}
 use Rattle.hop_laws.proofs.Rule.{Between, tells-between, Both}
 use Rattle.hop_rest.specs.Walks.{Walk, here, hop, HopCount, joined, apart}
-use Rattle.hop_rest.proofs.Walks.{Reaches, reaches-on, reaches-back, More, hop-count-more, hop-count-tells, hop-count-linked, hop-count-unlinked}
-use Rattle.hop_rest.proofs.Changes.{NoLarger, no-longer, lost-none, hops-less, smaller-shows}
+use Rattle.hop_rest.proofs.Walks.{Reaches, reaches-on, reaches-back, More, hop-count-more, hop-count-linked, hop-count-unlinked}
+use Rattle.hop_rest.proofs.Changes.{NoLarger, no-longer, lost-some, lost-none, hops-less, smaller-shows}
 
 -- Over n nodes t has the link of a and b, s has not, and all others are the same.
 pub record Adds (n : ℕ) (s t : State) (a b : ℕ) : Type 0 where
@@ -23,6 +23,9 @@ pub record Adds (n : ℕ) (s t : State) (a b : ℕ) : Type 0 where
   pub symmetric : (x y : ℕ) → x < s .n → y < s .n → s .link x y ≡ s .link y x
 
 module _ {n : ℕ} {s t : State} {a b : ℕ} (adds : Adds n s t a b) where
+  low : a < n
+  low = omega (arith, adds .ascends, adds .inside)
+
   more : More s t
   more = record { nodes = adds .nodes-too ∙ sym (adds .nodes); links = λ x y lx ly q. still x y q (decides (tells-between a b x y)) }
     where
@@ -117,22 +120,36 @@ module _ {n : ℕ} {s t : State} {a b : ℕ} (adds : Adds n s t a b) where
     pub no-larger : NoLarger n d e
     no-larger u v lu lv = hop-count-more more (counts u v lu lv) (counts-too u v lu lv)
 
+    -- Its ends are one hop apart with it, and further without.
+    near : e a b ≤ 1
+    near = hop-count-linked (omega (arith, adds .nodes-too, adds .ascends, adds .inside)) (rw (adds .nodes-too) (adds .inside)) (adds .links a b .at (inl (refl, refl))) (counts-too a b low (adds .inside))
+
+    far : 1 < d a b
+    far = hop-count-unlinked (omega (arith, adds .nodes, adds .ascends, adds .inside)) (λ i. omega (arith, adds .ascends)) (adds .unlinked) (counts a b low (adds .inside))
+
     -- So that the link is seen: it joins a pair, or shortens a route.
     pub link-shows : (0 < lost n e d) ⊎ (hops n e d < hops n d e)
-    link-shows =
-        let la : a < n = omega (arith, adds .ascends, adds .inside) in
-        let lb : b < n = adds .inside in
-        let near = hop-count-linked (rw (adds .nodes-too) la) (rw (adds .nodes-too) lb) (adds .links a b .at (inl (refl, refl))) (counts-too a b la lb) in
-        let far = hop-count-unlinked (omega (arith, adds .nodes)) (λ i. omega (arith, adds .ascends)) (adds .unlinked) (counts a b la lb) in
-        smaller-shows n d e (no-longer no-larger) a b la lb (omega (arith, near, adds .ascends)) (omega (arith, near, far))
+    link-shows = smaller-shows n d e (no-longer no-larger) a b low (adds .inside) (omega (arith, near, adds .ascends, adds .inside)) (omega (arith, near, far))
 
-    -- A link that joins pairs shortens no route.
-    pub never-both : lost n e d ≢ 0 → hops n e d ≡ hops n d e
-    never-both some = go (decides (hop-count-tells (counts a b (omega (arith, adds .ascends, adds .inside)) (adds .inside))))
+    -- One that joins no pair is not the only way between its ends;
+    pub another-way : lost n e d ≡ 0 → Reaches s a b
+    another-way none = go (counts a b low (adds .inside))
       where
-        go : Dec (Reaches s a b) → hops n e d ≡ hops n d e
-        go (yes r) = absurd (some (lost-none n e d (λ u v lu lv. counted-too r (counts u v lu lv) (counts-too u v lu lv))))
-        go (no f) =
-            let fewer = hops-less n d e (no-longer no-larger) in
-            let more = hops-less n e d (λ u v lu lv l k. counted-same f (counts u v lu lv) (counts-too u v lu lv) k l) in
-            omega (arith, fewer, more)
+        go : HopCount s a b (d a b) → Reaches s a b
+        go (joined l k m) = (d a b, k)
+        go (apart i f) =
+            let some = lost-some n e d a b low (adds .inside) (omega (arith, near, adds .ascends, adds .inside)) (λ l. omega (arith, adds .nodes)) in
+            absurd (omega (arith, some, none))
+
+    -- one that joins pairs is, and shortens no route.
+    pub only-way : lost n e d ≢ 0 → Reaches s a b → ⊥
+    only-way some r = some (lost-none n e d (λ u v lu lv. counted-too r (counts u v lu lv) (counts-too u v lu lv)))
+
+    pub keeps-distance : lost n e d ≢ 0 → (u v : ℕ) → u < n → v < n → d u v < n → e u v < n → d u v ≡ e u v
+    keeps-distance some u v lu lv l k = omega (arith, no-larger u v lu lv, counted-same (only-way some) (counts u v lu lv) (counts-too u v lu lv) l k)
+
+    pub never-both : lost n e d ≢ 0 → hops n e d ≡ hops n d e
+    never-both some =
+        let fewer = hops-less n d e (no-longer no-larger) in
+        let more = hops-less n e d (λ u v lu lv l k. le-of-eq (keeps-distance some u v lu lv k l)) in
+        omega (arith, fewer, more)

@@ -90,6 +90,11 @@ module _ (n : ℕ) (d e : ℕ → ℕ → ℕ) where
   tells-both : (u v : ℕ) → Tells (routed n d u v && routed n e u v) ((d u v < n) × (e u v < n))
   tells-both u v = tells-and (tells-lt (d u v) n) (tells-lt (e u v) n)
 
+  -- One pair is enough.
+  pub lost-some : (u v : ℕ) → u < n → v < n → d u v < n → (e u v < n → ⊥) → 0 < lost n d e
+  unfolding lost
+  lost-some u v lu lv l f = le-trans (le-of-eq (sym (choose-so (tells-lost u v) 1 0 (l, f)))) (over-at n _ u v lu lv)
+
 -- The tables d and e have the same numbers below n; e has none larger than d, so that it has d's routes, and none that is longer.
 abbrev pub Agree : ℕ → (ℕ → ℕ → ℕ) → (ℕ → ℕ → ℕ) → Type 0
 Agree n d e = (u v : ℕ) → u < n → v < n → d u v ≡ e u v
@@ -146,12 +151,12 @@ module _ (n : ℕ) (d e : ℕ → ℕ → ℕ) where
 
   -- One number smaller, of a route: it was none before, or all hops together are fewer.
   pub smaller-shows : NoLonger n d e → (u v : ℕ) → u < n → v < n → e u v < n → e u v < d u v → (0 < lost n e d) ⊎ (hops n e d < hops n d e)
-  unfolding lost hops
+  unfolding hops
   smaller-shows h u v lu lv l b = go (decLt (d u v) n)
     where
       go : Dec (d u v < n) → (0 < lost n e d) ⊎ (hops n e d < hops n d e)
       go (yes r) = inr (over-below n _ _ (pair-less h) u v lu lv (cond-below (tells-both n e d u v) (tells-both n d e u v) (l, r) (r, l) _ _ b))
-      go (no f) = inl (le-trans (le-of-eq (sym (choose-so (tells-lost n e d u v) 1 0 (l, f)))) (over-at n _ u v lu lv))
+      go (no f) = inl (lost-some n e d u v lu lv l f)
 
 module _ (n : ℕ) (d e : ℕ → ℕ → ℕ) where
   pub change-same : (d′ e′ : ℕ → ℕ → ℕ) → Agree n d d′ → Agree n e e′ → change n d e ≡ change n d′ e′

@@ -24,7 +24,7 @@ use Rattle.hop_rest.proofs.Right.{over-self}
 use Rattle.hop_rest.proofs.Rest.{rest-hop-count}
 use Rattle.hop_rest.proofs.Comes.{comes-to-rest}
 use Rattle.hop_rest.proofs.Changes.{Agree, NoLarger, keeps, no-longer, lost-parted, lost-most, lost-none, change-same, change-most, change-not-above, change-not-below, change-above, change-below, change-none}
-use Rattle.hop_rest.proofs.Bridges.{Adds, no-larger, link-shows, never-both}
+use Rattle.hop_rest.proofs.Bridges.{Adds, no-larger, link-shows, another-way, only-way, keeps-distance, never-both}
 
 -- ---- the turned state
 
@@ -174,6 +174,13 @@ module _ (s : State) (o : Sound s) (rest : AtRest s) (few : s .n ≤ 255) (a b :
   added-loses-none : s .link a b ≢ 1 → lost (s .n) (s .distance) after ≡ 0
   added-loses-none f = lost-none (s .n) (s .distance) after (keeps (added-no-larger f))
 
+  -- So pairs lose a route only where the link is up, and gain one only where it is not.
+  lost-up : lost (s .n) (s .distance) after ≢ 0 → s .link a b ≡ 1
+  lost-up some = elim (ℕ-discrete (s .link a b) 1) [ yes q ↦ q | no f ↦ absurd (some (added-loses-none f)) ]
+
+  gained-down : gained (s .n) (s .distance) after ≢ 0 → s .link a b ≢ 1
+  gained-down some q = some (away-gains-none q)
+
   pub line-tells : LineTells s a b
   unfolding line
   line-tells = record {
@@ -182,23 +189,29 @@ module _ (s : State) (o : Sound s) (rest : AtRest s) (few : s .n ≤ 255) (a b :
     second-end = turned-link s a b bit b a .at (inr (refl, refl)) ∙ ap (λ x. 1 - x) (o .symmetric a b (omega arith) inside);
     other-links = λ x y f g. turned-link s a b bit x y .other (λ h. elim h [ inl p ↦ f p | inr p ↦ g p ]);
     settled = trial-settled s a b o few ascends inside;
-    passes-most = passes-most s a b o ascends inside;
-    deliveries-most = deliveries-most s a b o ascends inside;
+    before-true = before-counts;
     lost-true = λ j k h i. lost-parted (s .n) (s .distance) after j k (before-routed j h) (after-routed k i);
     gained-true = λ j k h i. lost-parted (s .n) after (s .distance) k j (after-routed k i) (before-routed j h);
     change-true = λ d e h i. change-same (s .n) (s .distance) after d e (before-agree d h) (after-agree e i);
     away-gained = away-gains-none;
+    away-no-shorter = away-no-larger;
     away-change = λ q. change-not-below (s .n) after (s .distance) (no-longer (away-no-larger q));
     added-lost = added-loses-none;
+    added-no-longer = added-no-larger;
     added-change = λ f. change-not-above (s .n) (s .distance) after (no-longer (added-no-larger f));
     away-shows = λ q. elim (link-shows (away-adds q) after-counts before-counts) [ inl l ↦ inl l | inr l ↦ inr (change-above (s .n) (s .distance) after l) ];
     added-shows = λ f. elim (link-shows (added-adds f) before-counts after-counts) [ inl l ↦ inl l | inr l ↦ inr (change-below (s .n) (s .distance) after l) ];
-    lost-alone = λ some. elim (ℕ-discrete (s .link a b) 1) [
-      | yes q ↦ change-none (s .n) (s .distance) after (sym (never-both (away-adds q) after-counts before-counts some))
-      | no f ↦ absurd (some (added-loses-none f))
-    ];
-    gained-alone = λ some. elim (ℕ-discrete (s .link a b) 1) [
-      | yes q ↦ absurd (some (away-gains-none q))
-      | no f ↦ change-none (s .n) (s .distance) after (never-both (added-adds f) before-counts after-counts some)
-    ];
+    lost-alone = λ some. change-none (s .n) (s .distance) after (sym (never-both (away-adds (lost-up some)) after-counts before-counts some));
+    gained-alone = λ some. change-none (s .n) (s .distance) after (never-both (added-adds (gained-down some)) before-counts after-counts some);
+    lost-keeps = λ some u v lu lv l k. sym (keeps-distance (away-adds (lost-up some)) after-counts before-counts some u v lu lv k l);
+    gained-keeps = λ some. keeps-distance (added-adds (gained-down some)) before-counts after-counts some;
+    away-only-way = λ q some d w. only-way (away-adds q) after-counts before-counts some (d, w);
+    away-way-round = λ q none. another-way (away-adds q) after-counts before-counts none;
+    added-apart = λ f some d w. only-way (added-adds f) before-counts after-counts some (d, w);
+    added-joined = λ f none. another-way (added-adds f) before-counts after-counts none;
+    passes-most = passes-most s a b o ascends inside;
+    deliveries-most = deliveries-most s a b o ascends inside;
+    lost-most = lost-most (s .n) _ _;
+    gained-most = lost-most (s .n) _ _;
+    change-most = change-most (s .n) _ _;
   }

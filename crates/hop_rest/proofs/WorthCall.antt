@@ -2,7 +2,7 @@
 use mathlib.Core.Path.{_≡_, sym, ap, _∙_}
 use mathlib.Core.Bool.{Bool, true, false, cond}
 use mathlib.Core.List.{List, [], _∷_, _++_}
-use Prim.Native.Nat.{ℕ, _≤_, _<_}
+use Prim.Native.Nat.{ℕ, _*_, _≤_, _<_}
 use native.Mathlib.Nat.{le-of-eq}
 use native.Mathlib.Decide.{ℕ-discrete, decLt}
 use native.Mathlib.Omega.{arith}
@@ -18,7 +18,7 @@ use Rattle.hop_rule.specs.Stored.{size, nodes, readAs, read}
 use Rattle.hop_rule.specs.Sound.{Sound}
 use Rattle.hop_rule.specs.Records.{written}
 use Rattle.hop_rule.specs.Calls.{check, judge, notAtRest}
-use Rattle.hop_rule.specs.Worth.{turned, trialPasses, trial, lost, gained, change, line, lines, worthRefusals, worthDone, worth}
+use Rattle.hop_rule.specs.Worth.{turned, trialPasses, trial, lost, gained, change, line, lines, worthRefusals, Valued, worthDone, worth}
 use Rattle.hop_laws.specs.Same.{Same}
 use Rattle.hop_laws.specs.Fine.{Fine}
 use Rattle.hop_laws.proofs.Tests.{tells-lt, choose-else}
@@ -31,13 +31,14 @@ use Rattle.hop_laws.proofs.Worth.{worth-done, worth-refused, worth-number}
 use Rattle.hop_rest.specs.Rest.{AtRest}
 use Rattle.hop_rest.specs.Accepted.{Accepted}
 use Rattle.hop_rest.specs.Tails.{form}
-use Rattle.hop_rest.specs.Worth.{EveryWorthTells}
+use Rattle.hop_rest.specs.Worth.{placeOf, EveryWorthTells}
 use Rattle.hop_rest.proofs.Kept.{passes-keeps-sound}
 use Rattle.hop_rest.proofs.Settling.{total-rest}
 use Rattle.hop_rest.proofs.Same.{up-same, down-same, passes-same, total-same, made-same, delivered-same}
 use Rattle.hop_rest.proofs.Tails.{state-judged, tails-unread}
 use Rattle.hop_rest.proofs.Changes.{Agree, lost-same, change-same}
 use Rattle.hop_rest.proofs.Worth.{turned-nodes, turned-sound, line-fits, line-tells}
+use Rattle.hop_rest.proofs.Lines.{listed-stands}
 
 -- ---- lines of states that are the same below n
 
@@ -145,5 +146,6 @@ worth-tells s trial list done =
     let few : nodes s ≤ 255 = omega (arith, fine .most) in
     record {
       tells = λ a b ascends inside. (line-tells (read s) (fine .sound .state) rest few a b ascends inside, line-fits (read s) (fine .sound .state) (fine .most) a b ascends inside);
+      stands = λ a b ascends inside. ap (λ (v : Valued). take 7 (drop (7 * placeOf (nodes s) a b) (v .list))) (worth-done s trial list z) ∙ listed-stands (read s) list a b ascends inside;
       copy = rw (worth-done s trial list z) (copy-accepted s _ fine);
     }
