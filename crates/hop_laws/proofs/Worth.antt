@@ -9,10 +9,11 @@ use native.Mathlib.Omega.{arith}
 use lib.Dec.{ltb}
 use lib.IntN.{ℤ}
 use lib.ListN.{length, length-append}
-use Rattle.hop_rule.specs.Words.{if_then_else_, joined}
+use Rattle.hop_rule.specs.Words.{joined}
 use Rattle.hop_rule.specs.State.{State}
 use Rattle.hop_rule.specs.Calls.{judge}
 use Rattle.hop_rule.specs.Worth.{Line, line, lines, seven, numbers, worthRefusals, Valued, worthDone, worth}
+use Rattle.hop_laws.specs.Lines.{linesOf, linesBelow}
 use Rattle.hop_laws.proofs.Tests.{tells-eq, tells-lt, choose-so, choose-else}
 
 -- ---- numbers
@@ -30,48 +31,41 @@ length-numbers (x ∷ xs) = omega (arith, length-numbers xs)
 -- ---- lines
 
 module _ (s : State) where
-  -- The lines of a with the nodes below k, and those of the nodes below k with all nodes.
-  abbrev pub ofNode : ℕ → ℕ → List Line
-  ofNode a k = joined k (λ b. if ltb a b then line s a b ∷ [] else [])
-
-  abbrev pub ofNodes : ℕ → List Line
-  ofNodes k = joined k (λ a. ofNode a (s .n))
-
-  pub lines-are : lines s ≡ ofNodes (s .n)
+  pub lines-are : lines s ≡ linesBelow s (s .n)
   unfolding lines
   lines-are = refl
 
   -- One node more: a line, if it is above a.
-  pub node-above : (a b : ℕ) → a < b → ofNode a (suc b) ≡ ofNode a b ++ (line s a b ∷ [])
+  pub node-above : (a b : ℕ) → a < b → linesOf s a (suc b) ≡ linesOf s a b ++ (line s a b ∷ [])
   unfolding joined
-  node-above a b l = ap (λ x. ofNode a b ++ x) (choose-so (tells-lt a b) _ _ l)
+  node-above a b l = ap (λ x. linesOf s a b ++ x) (choose-so (tells-lt a b) _ _ l)
 
-  pub node-not-above : (a b : ℕ) → b ≤ a → length (ofNode a (suc b)) ≡ length (ofNode a b)
+  pub node-not-above : (a b : ℕ) → b ≤ a → length (linesOf s a (suc b)) ≡ length (linesOf s a b)
   unfolding joined
-  node-not-above a b l = length-append (ofNode a b) _ ∙ ap (λ (x : List Line). length (ofNode a b) + length x) (choose-else (tells-lt a b) _ _ (λ k. omega arith)) ∙ omega arith
+  node-not-above a b l = length-append (linesOf s a b) _ ∙ ap (λ (x : List Line). length (linesOf s a b) + length x) (choose-else (tells-lt a b) _ _ (λ k. omega arith)) ∙ omega arith
 
-  pub length-node : (a k : ℕ) → length (ofNode a k) ≡ k - suc a
+  pub length-node : (a k : ℕ) → length (linesOf s a k) ≡ k - suc a
   unfolding joined
   length-node a zero = omega arith
   length-node a (suc k) = go (decLt a k) (length-node a k)
     where
-      go : Dec (a < k) → length (ofNode a k) ≡ k - suc a → length (ofNode a (suc k)) ≡ suc k - suc a
-      go (yes l) h = omega (arith, ap length (node-above a k l), length-append (ofNode a k) (line s a k ∷ []), h)
+      go : Dec (a < k) → length (linesOf s a k) ≡ k - suc a → length (linesOf s a (suc k)) ≡ suc k - suc a
+      go (yes l) h = omega (arith, ap length (node-above a k l), length-append (linesOf s a k) (line s a k ∷ []), h)
       go (no f) h = omega (arith, node-not-above a k (omega arith), h)
 
-  pub nodes-more : (k : ℕ) → ofNodes (suc k) ≡ ofNodes k ++ ofNode k (s .n)
+  pub nodes-more : (k : ℕ) → linesBelow s (suc k) ≡ linesBelow s k ++ linesOf s k (s .n)
   unfolding joined
   nodes-more k = refl
 
-  pub length-nodes-more : (k : ℕ) → length (ofNodes (suc k)) ≡ length (ofNodes k) + (s .n - suc k)
-  length-nodes-more k = omega (arith, ap length (nodes-more k), length-append (ofNodes k) (ofNode k (s .n)), length-node k (s .n))
+  pub length-nodes-more : (k : ℕ) → length (linesBelow s (suc k)) ≡ length (linesBelow s k) + (s .n - suc k)
+  length-nodes-more k = omega (arith, ap length (nodes-more k), length-append (linesBelow s k) (linesOf s k (s .n)), length-node k (s .n))
 
   -- With j nodes to come.
-  left : (k j : ℕ) → s .n ≡ k + j → length (ofNodes k) * 2 + j * (j - 1) ≡ s .n * (s .n - 1)
+  left : (k j : ℕ) → s .n ≡ k + j → length (linesBelow s k) * 2 + j * (j - 1) ≡ s .n * (s .n - 1)
   unfolding joined
   left zero j e = let f : j ≡ s .n = omega (arith, e) in ap (λ (m : ℕ). 0 + m * (m - 1)) f ∙ omega arith
   left (suc k) j e =
-      let m : length (ofNodes (suc k)) ≡ length (ofNodes k) + j = omega (arith, length-nodes-more k) in
+      let m : length (linesBelow s (suc k)) ≡ length (linesBelow s k) + j = omega (arith, length-nodes-more k) in
       omega (arith, left k (suc j) (omega arith), m, last j)
     where
       last : (j : ℕ) → suc j * (suc j - 1) ≡ j * (j - 1) + j * 2

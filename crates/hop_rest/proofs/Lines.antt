@@ -11,7 +11,8 @@ use Rattle.hop_rule.specs.State.{State}
 use Rattle.hop_rule.specs.Records.{written}
 use Rattle.hop_rule.specs.Worth.{Line, line, lines, seven, numbers}
 use Rattle.hop_laws.proofs.Words.{joined-begins}
-use Rattle.hop_laws.proofs.Worth.{numbers-append, length-numbers, ofNode, ofNodes, lines-are, node-above, length-node, nodes-more, length-nodes-more, lines-count}
+use Rattle.hop_laws.specs.Lines.{linesOf, linesBelow}
+use Rattle.hop_laws.proofs.Worth.{numbers-append, length-numbers, lines-are, node-above, length-node, nodes-more, length-nodes-more, lines-count}
 use Rattle.hop_rest.specs.Worth.{pairsBelow, placeOf, Stands, EveryPairHasItsLine}
 
 -- What stands in a part stands in the whole.
@@ -23,7 +24,7 @@ within front part back before after x e =
     ∙ sym (append-assoc front before (x ∷ (after ++ back)))
 
 module _ (s : State) where
-  length-below : (a : ℕ) → length (ofNodes s a) ≡ pairsBelow (s .n) a
+  length-below : (a : ℕ) → length (linesBelow s a) ≡ pairsBelow (s .n) a
   unfolding sum joined
   length-below zero = refl
   length-below (suc a) = omega (arith, length-nodes-more s a, length-below a)
@@ -33,12 +34,12 @@ module _ (s : State) where
       let low : a < s .n = omega arith in
       let (after, e) = joined-begins (suc b) (s .n) _ inside in
       let (later, f) = joined-begins (suc a) (s .n) _ low in
-      let own : ofNode s a (s .n) ≡ ofNode s a b ++ (line s a b ∷ after) = e ∙ ap (λ l. l ++ after) (node-above s a b ascends) ∙ append-assoc (ofNode s a b) (line s a b ∷ []) after in
+      let own : linesOf s a (s .n) ≡ linesOf s a b ++ (line s a b ∷ after) = e ∙ ap (λ l. l ++ after) (node-above s a b ascends) ∙ append-assoc (linesOf s a b) (line s a b ∷ []) after in
       record {
-        before = ofNodes s a ++ ofNode s a b;
+        before = linesBelow s a ++ linesOf s a b;
         after = after ++ later;
-        whole = lines-are s ∙ f ∙ ap (λ l. l ++ later) (nodes-more s a) ∙ within (ofNodes s a) (ofNode s a (s .n)) later (ofNode s a b) after (line s a b) own;
-        place = omega (arith, length-append (ofNodes s a) (ofNode s a b), length-below a, length-node s a b);
+        whole = lines-are s ∙ f ∙ ap (λ l. l ++ later) (nodes-more s a) ∙ within (linesBelow s a) (linesOf s a (s .n)) later (linesOf s a b) after (line s a b) own;
+        place = omega (arith, length-append (linesBelow s a) (linesOf s a b), length-below a, length-node s a b);
       }
 
 pub pairs-have-lines : EveryPairHasItsLine

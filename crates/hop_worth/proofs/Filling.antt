@@ -11,12 +11,13 @@ use lib.Seq.{sets}
 use Rattle.hop_rule.specs.State.{State}
 use Rattle.hop_rule.specs.Stored.{readAs, read}
 use Rattle.hop_rule.specs.Worth.{Line, line, lines, numbers}
+use Rattle.hop_laws.specs.Lines.{linesOf, linesBelow}
 use Rattle.hop_laws.proofs.Words.{joined-begins}
-use Rattle.hop_laws.proofs.Worth.{numbers-append, length-numbers, ofNodes, lines-are, node-above, length-node, nodes-more, length-nodes-more, lines-count}
+use Rattle.hop_laws.proofs.Worth.{numbers-append, length-numbers, lines-are, node-above, length-node, nodes-more, length-nodes-more, lines-count}
 use Rattle.hop_rest.proofs.Worth.{line-fits}
 use Rattle.hop_trial.specs.declared.Found.{Found}
 use Rattle.hop_trial.specs.Trial.{Copied, found}
-use Rattle.hop_worth.specs.Writing.{Small, sevenOf, linesOf}
+use Rattle.hop_worth.specs.Writing.{Small, sevenOf}
 use Rattle.hop_worth.proofs.Lists.{sets-append}
 
 module _ (t : State) where
@@ -43,23 +44,23 @@ module _ (t : State) where
   -- ---- those of all nodes
 
   pub node-turn : (a : ℕ) {k : ℕ} (l₀ : List ℤ) {l m : List ℤ}
-      → k ≡ length (ofNodes t a)
-      → l ≡ sets l₀ 0 (numbers (ofNodes t a))
+      → k ≡ length (linesBelow t a)
+      → l ≡ sets l₀ 0 (numbers (linesBelow t a))
       → m ≡ sets l (7 * k) (numbers (linesOf t a (t .n)))
-      → m ≡ sets l₀ 0 (numbers (ofNodes t (a + 1)))
+      → m ≡ sets l₀ 0 (numbers (linesBelow t (a + 1)))
   node-turn a {k} l₀ at e h =
-      let place : 7 * k ≡ 0 + length (numbers (ofNodes t a)) = omega (arith, at, length-numbers (ofNodes t a)) in
-      let more : numbers (ofNodes t (a + 1)) ≡ numbers (ofNodes t a) ++ numbers (linesOf t a (t .n)) = rw (add-one a, nodes-more t a, numbers-append (ofNodes t a) (linesOf t a (t .n))) in
-      h ∙ rw (e, place, more, sets-append (numbers (ofNodes t a)) (numbers (linesOf t a (t .n))) l₀ 0)
+      let place : 7 * k ≡ 0 + length (numbers (linesBelow t a)) = omega (arith, at, length-numbers (linesBelow t a)) in
+      let more : numbers (linesBelow t (a + 1)) ≡ numbers (linesBelow t a) ++ numbers (linesOf t a (t .n)) = rw (add-one a, nodes-more t a, numbers-append (linesBelow t a) (linesOf t a (t .n))) in
+      h ∙ rw (e, place, more, sets-append (numbers (linesBelow t a)) (numbers (linesOf t a (t .n))) l₀ 0)
 
-  pub node-count : (a : ℕ) {k : ℕ} → k ≡ length (ofNodes t a) → k + (t .n - suc a) ≡ length (ofNodes t (a + 1))
+  pub node-count : (a : ℕ) {k : ℕ} → k ≡ length (linesBelow t a) → k + (t .n - suc a) ≡ length (linesBelow t (a + 1))
   node-count a at = rw (add-one a) (omega (arith, at, length-nodes-more t a))
 
   -- They are no more than all lines.
-  pub nodes-most : (a : ℕ) → a ≤ t .n → length (ofNodes t a) ≤ length (lines t)
+  pub nodes-most : (a : ℕ) → a ≤ t .n → length (linesBelow t a) ≤ length (lines t)
   nodes-most a l =
       let (rest, e) = joined-begins a (t .n) (λ a. linesOf t a (t .n)) l in
-      omega (arith, ap length (lines-are t ∙ e), length-append (ofNodes t a) rest)
+      omega (arith, ap length (lines-are t ∙ e), length-append (linesBelow t a) rest)
 
 -- ---- what is known of a trial
 
@@ -92,8 +93,8 @@ module _ {n : ℕ} {s x : List ℕ} (h : Copied n s x) where
       let most : read s .n * (read s .n - 1) ≤ 40 * 39 = mul-le-mul few less in
       omega (arith, lines-count (read s), most)
 
-  pub node-room : {k a m : ℕ} → k ≡ length (ofNodes (read s) a) → a < n → length (numbers (lines (read s))) ≤ m → (k + (n - suc a) ≤ 780) × (7 * (k + (n - suc a)) ≤ m)
+  pub node-room : {k a m : ℕ} → k ≡ length (linesBelow (read s) a) → a < n → length (numbers (lines (read s))) ≤ m → (k + (n - suc a) ≤ 780) × (7 * (k + (n - suc a)) ≤ m)
   node-room {k} {a} at l room =
-      let next : k + (n - suc a) ≡ length (ofNodes (read s) (a + 1)) = rw count-claimed (node-count (read s) a at) in
+      let next : k + (n - suc a) ≡ length (linesBelow (read s) (a + 1)) = rw count-claimed (node-count (read s) a at) in
       let within = nodes-most (read s) (a + 1) (omega (arith, l, count-claimed)) in
       (omega (arith, next, within, lines-most), omega (arith, next, within, room, length-numbers (lines (read s))))

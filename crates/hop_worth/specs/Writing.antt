@@ -1,11 +1,7 @@
 -- What the code writes to the list of R-1. Used by the code's own contracts; a buyer needs none of it.
 use mathlib.Core.List.{List, [], _∷_}
 use Prim.Native.Nat.{ℕ, _≤_, _<_}
-use lib.Dec.{ltb}
 use lib.IntN.{ℤ, pos, natAbs}
-use Rattle.hop_rule.specs.Words.{if_then_else_, joined}
-use Rattle.hop_rule.specs.State.{State}
-use Rattle.hop_rule.specs.Worth.{Line, line}
 use Rattle.hop_trial.specs.declared.Found.{Found}
 
 -- What a trial found fits signed numbers of 32 bits.
@@ -19,7 +15,3 @@ pub record Small (f : Found) : Type 0 where
 -- The seven numbers of the pair a, b.
 abbrev pub sevenOf : ℕ → ℕ → Found → List ℤ
 sevenOf a b f = pos a ∷ pos b ∷ pos (f .passes) ∷ pos (f .deliveries) ∷ pos (f .lost) ∷ pos (f .gained) ∷ f .change ∷ []
-
--- The lines of a with the nodes below k.
-abbrev pub linesOf : State → ℕ → ℕ → List Line
-linesOf s a k = joined k (λ b. if ltb a b then line s a b ∷ [] else [])

@@ -15,8 +15,9 @@ ghost use lib.ListN.{length, set};
 ghost use lib.Seq.{sets};
 ghost use Rattle.hop_rule.specs.Stored.{read};
 ghost use Rattle.hop_rule.specs.Worth.{numbers, lines};
+ghost use Rattle.hop_laws.specs.Lines.{linesOf};
 ghost use Rattle.hop_trial.specs.Trial.{Copied};
-ghost use Rattle.hop_worth.specs.Writing.{Small, sevenOf, linesOf};
+ghost use Rattle.hop_worth.specs.Writing.{Small, sevenOf};
 ghost use Rattle.hop_worth.specs.Answers.{Worth};
 
 // A signed number is put at place i of the list, and one that is not below zero.

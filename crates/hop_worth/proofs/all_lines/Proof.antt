@@ -8,14 +8,14 @@ use lib.Seq.{sets, length-sets}
 use Rattle.hop_rule.specs.Words.{joined}
 use Rattle.hop_rule.specs.Stored.{read}
 use Rattle.hop_rule.specs.Worth.{numbers, lines}
-use Rattle.hop_laws.proofs.Worth.{ofNodes, lines-are}
-use Rattle.hop_worth.specs.Writing.{linesOf}
+use Rattle.hop_laws.specs.Lines.{linesOf, linesBelow}
+use Rattle.hop_laws.proofs.Worth.{lines-are}
 use Rattle.hop_worth.proofs.Filling.{node-turn, node-count, copied-still, count-claimed, lines-most, node-room}
 use Rattle.hop_worth.proofs.all_lines.Statement.{statement}
 use Rattle.hop_worth.proofs.all_lines.Tie as tie
 
 abbrev Inv-loop : tie.InvT-loop
-Inv-loop s x₀ list₀ n k₀ a₀ x list k a = (a ≤ n) × (k ≡ length (ofNodes (read s) a)) × (x ≡ x₀) × (length list ≡ length list₀) × (list ≡ sets list₀ 0 (numbers (ofNodes (read s) a)))
+Inv-loop s x₀ list₀ n k₀ a₀ x list k a = (a ≤ n) × (k ≡ length (linesBelow (read s) a)) × (x ≡ x₀) × (length list ≡ length list₀) × (list ≡ sets list₀ 0 (numbers (linesBelow (read s) a)))
 
 abbrev μ-loop : tie.MeasureT-loop
 μ-loop s x₀ list₀ n k₀ a₀ x list k a = n - a
@@ -69,10 +69,10 @@ returns c =
     let t = read (x .s .now) in
     let inv = c .before .loop .inv in
     let all = le-antisymm (inv .0) (c .loop-test .left) ∙ count-claimed h in
-    let count = inv .1 ∙ ap (λ m. length (ofNodes t m)) all ∙ ap length (sym (lines-are t)) in (
+    let count = inv .1 ∙ ap (λ m. length (linesBelow t m)) all ∙ ap length (sym (lines-are t)) in (
       count,
       omega (arith, count, lines-most h),
-      inv .4 ∙ ap (λ m. sets (x .list .now) 0 (numbers (ofNodes t m))) all ∙ ap (λ ls. sets (x .list .now) 0 (numbers ls)) (sym (lines-are t)),
+      inv .4 ∙ ap (λ m. sets (x .list .now) 0 (numbers (linesBelow t m))) all ∙ ap (λ ls. sets (x .list .now) 0 (numbers ls)) (sym (lines-are t)),
       inv .2,
     )
 

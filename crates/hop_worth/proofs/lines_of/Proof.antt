@@ -7,7 +7,8 @@ use lib.ListN.{length}
 use lib.Seq.{sets, length-sets}
 use Rattle.hop_rule.specs.Stored.{read}
 use Rattle.hop_rule.specs.Worth.{numbers}
-use Rattle.hop_worth.specs.Writing.{sevenOf, linesOf}
+use Rattle.hop_laws.specs.Lines.{linesOf}
+use Rattle.hop_worth.specs.Writing.{sevenOf}
 use Rattle.hop_worth.proofs.Filling.{none-yet, line-turn, copied-still, small-found}
 use Rattle.hop_worth.proofs.lines_of.Statement.{statement}
 use Rattle.hop_worth.proofs.lines_of.Tie as tie
