@@ -94,11 +94,15 @@ fn shift(s: &mut [u8], n: usize, t: Table, w: usize, u: usize, k: usize, p: usiz
     put3(s, n, t, w, u, p, x as u8);
 }
 
-// The k places of a row behind the first m become 0.
+// The k places of a row behind the first m become 0. Most often it is one place, and a loop over one is slow.
 fn clear(s: &mut [u8], n: usize, t: Table, w: usize, u: usize, m: usize, k: usize)
     requires { ⌜ Room n (now s) × (w < n) × (u < n) × (m + k ≤ n) × (cells n t ≡ n * n * n) ⌝ }
     ensures { λ r. ⌜ now (s .exit) ≡ queue.clear n t w u m k (now (s .entry)) ⌝ }
 {
+    if k == 1 {
+        put3(s, n, t, w, u, m, 0);
+        return;
+    }
     for p in 0..k {
         put3(s, n, t, w, u, m + p, 0);
     }

@@ -15,7 +15,7 @@ use Rattle.hop_rule.specs.declared.Table.the-variants.{Views}
 use Rattle.hop_rule.specs.Words.{if_then_else_}
 use Rattle.hop_cells.specs.Cells.{get3}
 use Rattle.hop_steps.specs.declared.Best.{Best}
-use Rattle.hop_steps.specs.Steps.{up, nearer, at, choose, lesser, giver, Looked}
+use Rattle.hop_steps.specs.Steps.{up, nearer, choose, lesser, giver, Looked}
 
 -- One view beside the least so far: as the two bytes go by it, and as `nearer` does.
 module _ (d c w x : ℕ) where
