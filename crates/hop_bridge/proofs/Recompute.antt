@@ -18,7 +18,7 @@ use Rattle.hop_laws.proofs.Sound.{tells-sends}
 use Rattle.hop_laws.proofs.Rule.{distanceOf-own, downstreamOf-own, recompute-queue-other}
 use Rattle.hop_queues.specs.Queues as bytes
 use Rattle.hop_steps.specs.declared.Best.{Best}
-use Rattle.hop_steps.specs.Steps.{up, store, tellOne, tell, recompute}
+use Rattle.hop_steps.specs.Steps.{up, store, tellOne, tell, recompute, renew}
 use Rattle.hop_bridge.specs.Carries.{Carries}
 use Rattle.hop_bridge.specs.Parts.{withSent}
 use Rattle.hop_bridge.proofs.Choice.{cond-idle}
@@ -137,7 +137,7 @@ module _ {n : ℕ} {r s : List ℕ} {t : State} (h : Carries n r s t) (u v : ℕ
   changed-carries f e = carries-same (tell-carries (store-carries h u v (found t u v) lu lv f) u v (new .distance) lu lv) (rule.recompute t u v) (changed e)
 
   pub recompute-carries : Carries n r (recompute n u v s) (rule.recompute t u v)
-  unfolding recompute
+  unfolding recompute renew
   recompute-carries = go (ℕ-discrete u v)
     where
       after : List ℕ

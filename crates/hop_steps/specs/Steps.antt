@@ -38,18 +38,15 @@ tellOne n u v d w s = if up n u w s then send n u w v d s else s
 unfoldable pub tell : ℕ → ℕ → ℕ → ℕ → List ℕ → List ℕ
 tell n u v d s = loop n (tellOne n u v d) s
 
--- 'Recompute' of v at u. If the distance changed, it is told.
-unfoldable pub recompute : ℕ → ℕ → ℕ → List ℕ → List ℕ
-recompute n u v s =
-    let b = best n u v s in
-    let stored = store n u v b s in
-    if eqb u v then s else (if eqb (b .distance) (get2 n Distances u v s) then stored else tell n u v (b .distance) stored)
-
--- The same with what is found handed in.
+-- What is found for v at u is stored. If the distance changed, it is told.
 unfoldable pub renew : ℕ → ℕ → ℕ → Best → List ℕ → List ℕ
 renew n u v b s =
     let stored = store n u v b s in
     if eqb u v then s else (if eqb (b .distance) (get2 n Distances u v s) then stored else tell n u v (b .distance) stored)
+
+-- 'Recompute' of v at u.
+unfoldable pub recompute : ℕ → ℕ → ℕ → List ℕ → List ℕ
+recompute n u v s = renew n u v (best n u v s) s
 
 -- The best of all destinations side by side: the least view of v so far stands in one row, and the neighbour that gave it in the other.
 abbrev pub at : List ℕ → List ℕ → ℕ → Best

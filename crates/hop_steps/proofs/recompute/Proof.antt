@@ -6,7 +6,7 @@ use Rattle.hop_steps.proofs.recompute.Statement.{statement}
 use Rattle.hop_steps.proofs.recompute.Tie as tie
 
 returns : tie.Need-returns
-unfolding recompute
+unfolding recompute renew
 returns c = simp (eq-eqb _ _ (c .if1 .taken))
 
 find-best-requires : tie.Need-find-best-requires
