@@ -69,7 +69,7 @@ nothingWaits s w u = record { number = 8; applies = eqb (length (read s .queue w
 
 -- 02, R-1: the state is not at rest.
 abbrev pub notAtRest : List ℕ → Refusal
-notAtRest s = record { number = 12; applies = not (eqb (rule.total (read s)) 0) }
+notAtRest s = record { number = 12; applies = not (rule.atRest (read s)) }
 
 -- Order for calls on a state: empty buffer 2, then 1, short buffer 2, 3, 4, 5, 6 or 7, 8, by 02 then 12, last an output that is too short 2. Making a state: 1, then 2.
 abbrev pub onState : List ℕ → List Refusal → List Refusal

@@ -90,6 +90,10 @@ waitingFor s u = sum (s .n) (λ w. length (s .queue w u))
 unfoldable pub waitingFrom : State → ℕ → ℕ
 waitingFrom s u = sum (s .n) (λ x. length (s .queue u x))
 
+-- At rest: no entry waits.
+abbrev pub atRest : State → Bool
+atRest s = eqb (total s) 0
+
 -- Destinations other than u itself that u has at a distance below n.
 unfoldable pub reached : State → ℕ → ℕ
 reached s u = sum (s .n) (λ v. if not (eqb v u) && ltb (s .distance u v) (s .n) then 1 else 0)

@@ -8,7 +8,6 @@ use hop_trial::Found;
 use hop_trial::copy;
 use hop_trial::trial;
 ghost use mathlib.Core.Path.{_≡_};
-ghost use mathlib.Core.List.{[], _∷_, _++_};
 ghost use Prim.Native.Nat.{suc, _+_, _*_, _-_, _<_, _≤_};
 ghost use lib.IntN.{pos};
 ghost use lib.ListN.{length, set};
