@@ -20,7 +20,7 @@ fn held(cases: u64, skip: &[&str]) {
 #[test]
 fn equals_the_second_implementation() {
     let program = ["program", "program-input"];
-    let long = ["numbers", "two-nodes", "three-nodes", "every-node-count", "worth-node-counts"];
+    let long = ["numbers", "two-nodes", "three-nodes", "every-node-count", "queue-places", "worth-node-counts"];
     held(8, &[&program[..], &long].concat());
     held(40, &program);
 }

@@ -67,7 +67,9 @@ pub const DAMAGES: &[Damage] = &[
     own_queue,
     length_over_n,
     same_destination_twice,
+    destination_again,
     destination_not_below_n,
+    number_like_destination,
     other_value,
     other_view,
     destination_past,
@@ -211,6 +213,64 @@ fn same_destination_twice(random: &mut Random, blocks: &mut Blocks) -> Option<Cl
     blocks.destinations[w][u][at] = blocks.destinations[w][u][twice];
     blocks.values[w][u][at] = blocks.values[w][u][twice];
     Some(Clause::DestinationsDiffer)
+}
+
+/// A queue that is in use, with room for one more entry: from a full one an entry that need not wait is taken out.
+fn with_room(random: &mut Random, blocks: &mut Blocks) -> Option<(usize, usize)> {
+    let n = usize::from(blocks.n);
+    let all = (0..n).flat_map(|w| (0..n).map(move |u| (w, u)));
+    let in_use: Vec<(usize, usize)> = all.filter(|&(w, u)| blocks.lengths[w][u] > 0).collect();
+    let &(w, u) = (!in_use.is_empty()).then(|| random.pick(&in_use))?;
+    if blocks.lengths[w][u] == blocks.n {
+        let heard = |at: &usize| {
+            let v = usize::from(blocks.destinations[w][u][*at]);
+            blocks.views[u][w][v] == blocks.distances[w][v]
+        };
+        let heard: Vec<usize> = (0..n).filter(heard).collect();
+        let &at = (!heard.is_empty()).then(|| random.pick(&heard))?;
+        for row in [&mut blocks.destinations[w][u], &mut blocks.values[w][u]] {
+            row.remove(at);
+            row.push(0);
+        }
+        blocks.lengths[w][u] -= 1;
+    }
+    Some((w, u))
+}
+
+/// One more entry in a queue with room: next to the one at a place, at an end of the queue, or anywhere.
+fn one_more(random: &mut Random, blocks: &mut Blocks, (w, u): (usize, usize), near: usize, entry: (u8, u8)) {
+    let length = usize::from(blocks.lengths[w][u]);
+    let any = random.between(0, length);
+    let at = *random.pick(&[near, near + 1, 0, length, any]);
+    for (row, byte) in [(&mut blocks.destinations[w][u], entry.0), (&mut blocks.values[w][u], entry.1)] {
+        row.insert(at, byte);
+        row.pop();
+    }
+    blocks.lengths[w][u] += 1;
+}
+
+/// A second entry of a destination that waits: no other clause is broken.
+pub fn destination_again(random: &mut Random, blocks: &mut Blocks) -> Option<Clause> {
+    let (w, u) = with_room(random, blocks)?;
+    let at = random.below(usize::from(blocks.lengths[w][u]));
+    let entry = (blocks.destinations[w][u][at], blocks.values[w][u][at]);
+    one_more(random, blocks, (w, u), at, entry);
+    Some(Clause::DestinationsDiffer)
+}
+
+/// An entry that would do for a destination that does not wait, were its number taken modulo 32, 64 or 128: no other
+/// clause is broken.
+pub fn number_like_destination(random: &mut Random, blocks: &mut Blocks) -> Option<Clause> {
+    let (w, u) = with_room(random, blocks)?;
+    let length = usize::from(blocks.lengths[w][u]);
+    let waiting = &blocks.destinations[w][u][..length];
+    let others: Vec<u8> = (0..blocks.n).filter(|v| !waiting.contains(v)).collect();
+    let &v = random.pick(&others);
+    let like: Vec<u8> = [32, 64, 128, 192].map(|more| v + more).into_iter().filter(|&x| x >= blocks.n).collect();
+    let entry = (*random.pick(&like), blocks.distances[w][usize::from(v)]);
+    let near = random.below(length);
+    one_more(random, blocks, (w, u), near, entry);
+    Some(Clause::DestinationBelowN)
 }
 
 fn destination_not_below_n(random: &mut Random, blocks: &mut Blocks) -> Option<Clause> {

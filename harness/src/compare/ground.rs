@@ -157,7 +157,8 @@ fn shown(state: &[u8]) -> String {
 }
 
 fn first_difference<T: PartialEq>(is: &[T], should: &[T]) -> Option<usize> {
-    is.iter().zip(should).position(|(a, b)| a != b)
+    // Whole first: most are equal, and that is found out fast.
+    if is == should { None } else { is.iter().zip(should).position(|(a, b)| a != b) }
 }
 
 /// What a byte of a stored state is, found by counting through the blocks in their order.

@@ -92,6 +92,16 @@ pub fn apply(state: &mut State, event: Event) -> [u32; 3] {
     [0, 0, 0]
 }
 
+/// A site with these links, at rest.
+pub fn at_rest(n: usize, links: &[(usize, usize)]) -> State {
+    let mut state = State::fresh(n);
+    for &(a, b) in links {
+        state.up(a, b);
+    }
+    state.run(255);
+    state
+}
+
 /// A state that random events reach: some links at once, then single events.
 pub fn reached(random: &mut Random, n: usize) -> State {
     let mut state = State::fresh(n);

@@ -9,7 +9,7 @@ use crate::second::sound::broken;
 use crate::second::stored::{Blocks, size, stored};
 
 /// The check, and two more calls: each of them judges the state for itself.
-fn judged(ground: &mut Ground, random: &mut Random, buffer: &[u8]) -> Result<(), String> {
+pub fn judged(ground: &mut Ground, random: &mut Random, buffer: &[u8]) -> Result<(), String> {
     ground.agree(buffer, &Call::Check)?;
     let n = usize::from(buffer[0]).max(1);
     let calls = Call::all(random.below(n), random.below(n));

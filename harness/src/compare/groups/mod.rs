@@ -6,6 +6,7 @@ mod fixed;
 mod lengths;
 mod order;
 mod program;
+mod queues;
 mod records;
 mod runs;
 mod small;
@@ -55,6 +56,12 @@ pub const GROUPS: &[Group] = &[
     whole("every-byte", "every byte of small states with every value in its place", small::every_byte),
     whole("every-length", "every length of a buffer for small states, every call", small::every_length),
     whole("every-pair", "every pair of number classes, every call", arguments::every_pair),
+    whole("queue-lists", "every list of destinations in a queue, of up to five nodes", queues::lists),
+    whole(
+        "queue-places",
+        "for each n to 40 a destination twice at every two places of a queue, and every number that is none",
+        queues::places,
+    ),
     whole("worth-every-set", "what each link is worth, for every set of links of up to five nodes", worth::every_set),
     whole("worth-every-room", "the same of small sites, in trials and lists of every length", worth::every_room),
     whole("worth-node-counts", "the same of a site of each n from 1 to 24, of 32 and of 40", worth::node_counts),
@@ -74,6 +81,7 @@ pub const GROUPS: &[Group] = &[
     cases("damaged-stretches", 3, "sound states with a stretch of bytes changed", damaged::stretches),
     cases("random-bytes", 2, "buffers of any bytes", damaged::random_bytes),
     cases("clauses", 5, "each clause of soundness broken on purpose", damaged::clauses),
+    cases("queue-orders", 5, "queues in any order, sound and with one entry too many", queues::orders),
     cases("worth", 4, "what each link is worth, of random sites, in trials and lists of every class", worth::sites),
     cases("worth-refused", 3, "its refusals and their order", worth::refused),
     cases("worth-by-search", 3, "its lines held to searches over the links, and to runs", worth::by_search),

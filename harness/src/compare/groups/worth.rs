@@ -7,19 +7,9 @@ use crate::compare::call::{Call, needed};
 use crate::compare::damage::{self, DAMAGES};
 use crate::compare::ground::{Ground, outcome};
 use crate::compare::random::Random;
-use crate::compare::states::{self, pairs};
+use crate::compare::states::{self, at_rest, pairs};
 use crate::second::rule::{Entry, State};
 use crate::second::stored::{Blocks, stored};
-
-/// A site with these links, at rest.
-fn at_rest(n: usize, links: &[(usize, usize)]) -> State {
-    let mut state = State::fresh(n);
-    for &(a, b) in links {
-        state.up(a, b);
-    }
-    state.run(255);
-    state
-}
 
 fn site(random: &mut Random, n: usize) -> State {
     let links = states::links(random, n);
