@@ -2,8 +2,8 @@
 # Needs cargo, a C and a C++ compiler and Python 3. The archive and the program are for x86-64: elsewhere they are
 # emulated (make/emulated.mk), and what times them or looks into them is not done.
 # The main Makefile includes it; alone it is `make -f make/harness.mk TARGET` in the root of the repository.
-.PHONY: compare program-test selftest must-notice valgrind asan bench bench-test example example-ring example-worth \
-	header header-c header-cxx rust-test native always
+.PHONY: compare program-test selftest must-notice valgrind asan bench bench-test before example example-ring \
+	example-worth header header-c header-cxx rust-test native always
 
 # The archive under test, and the program. Either can be another one, which is then taken as it is.
 NATIVE := $(filter x86_64,$(shell uname -m))
@@ -79,7 +79,8 @@ example-ring example-worth: example-%: $(HOP_ARCHIVE) | $(HARNESS_OUT)
 
 # What the sanitizers run: the comparison with few cases of each group, without those that are all-or-nothing and long.
 # Its fences have closed pages on both sides with or without them.
-FEW := --cases 5 --skip three-nodes --skip every-node-count --skip every-byte --skip numbers --skip worth-node-counts
+FEW := --cases 5 --skip three-nodes --skip every-node-count --skip every-byte --skip numbers --skip queue-places \
+	--skip worth-node-counts
 
 # Reads of what nobody wrote and accesses outside of a buffer, in the archive's own code: exact buffers from C, then
 # the comparison.
@@ -108,6 +109,19 @@ bench-test:
 
 # Ratios of the core's time to a careful safe Rust implementation's, every byte equal first. BENCH: a word of the rows'
 # names (check, pass, records, ..) for these alone, or --itself for the safe implementation against itself.
-bench: native $(HOP_ARCHIVE)
-	@$(LINKED) cargo build --quiet --release -p hop_bench
-	@$(HARNESS_BIN)/bench $(BENCH)
+# BEFORE: an older archive, which then stands where the safe implementation does, for --itself too; built in a folder
+# of its own.
+BEFORE_LINKED = HOP_ARCHIVE=$(HARNESS_OUT)/libhop_now.a HOP_BEFORE=$(HARNESS_OUT)/libhop_before.a \
+	CARGO_TARGET_DIR=build/before
+bench: native $(HOP_ARCHIVE) $(if $(BEFORE),before)
+	@$(if $(BEFORE),$(BEFORE_LINKED),$(LINKED)) cargo build --quiet --release -p hop_bench
+	@$(if $(BEFORE),build/before/release,$(HARNESS_BIN))/bench $(BENCH)
+
+# Both archives as they are timed beside each other. The older one has other names for its calls. Every function starts
+# where 64 bytes do: elsewhere the same code can take a quarter longer, and the linker would choose.
+before: $(HOP_ARCHIVE) $(BEFORE) | $(HARNESS_OUT)
+	@nm --defined-only --extern-only --format=just-symbols $(BEFORE) | sed -n 's/^hop_.*/& before_&/p' \
+		> $(HARNESS_OUT)/before.names
+	@objcopy --set-section-alignment '.text*=64' $(HOP_ARCHIVE) $(HARNESS_OUT)/libhop_now.a
+	@objcopy --set-section-alignment '.text*=64' --redefine-syms=$(HARNESS_OUT)/before.names $(BEFORE) \
+		$(HARNESS_OUT)/libhop_before.a

@@ -1,17 +1,23 @@
 //! How it is timed: in one process, the two turn and turn about, the best of many. Uses the rows.
 
 use crate::rows::{Row, events, script};
-use crate::safe::calls::check_in_pairs;
 use hop_harness::compare::call::Answers;
 use hop_harness::engine::Engine;
 use std::hint::black_box;
 use std::time::{Duration, Instant};
 
-/// The best times of the core and of the safe implementation, in nanoseconds.
+/// The best times of the core and of what it is timed beside, in nanoseconds.
 #[derive(Clone, Copy)]
 pub struct Best {
     pub core: f64,
-    pub safe: f64,
+    pub beside: f64,
+}
+
+impl Best {
+    /// Below 1 the first is faster.
+    pub fn ratio(&self) -> f64 {
+        self.core / self.beside
+    }
 }
 
 /// How long a row is timed, and how often at least.
@@ -21,17 +27,17 @@ const ROUNDS: usize = 15;
 const CLOCK: f64 = 20_000.0;
 
 /// Times two works turn and turn about. Each gives its own time in nanoseconds.
-pub fn best_of(mut core: impl FnMut() -> f64, mut safe: impl FnMut() -> f64) -> Best {
-    let mut best = Best { core: f64::MAX, safe: f64::MAX };
+pub fn best_of(mut core: impl FnMut() -> f64, mut beside: impl FnMut() -> f64) -> Best {
+    let mut best = Best { core: f64::MAX, beside: f64::MAX };
     let start = Instant::now();
     let mut rounds = 0;
     while rounds < ROUNDS || start.elapsed() < TIME {
         // The one that comes second finds a warmer machine, so they change places.
         if rounds % 2 == 0 {
             best.core = best.core.min(core());
-            best.safe = best.safe.min(safe());
+            best.beside = best.beside.min(beside());
         } else {
-            best.safe = best.safe.min(safe());
+            best.beside = best.beside.min(beside());
             best.core = best.core.min(core());
         }
         rounds += 1;
@@ -99,33 +105,23 @@ impl Round<'_> {
 }
 
 /// Times a row, after making sure that both give the same answers and leave the same in every buffer.
-pub fn row(core: &dyn Engine, safe: &dyn Engine, row: &Row) -> Result<Best, String> {
-    let (is, should) = (outcome(core, row), outcome(safe, row));
+pub fn row(core: &dyn Engine, beside: &dyn Engine, row: &Row) -> Result<Best, String> {
+    let (is, should) = (outcome(core, row), outcome(beside, row));
     if is != should {
         return Err(format!("{}, n = {}: the two differ ({:?}, {:?})", row.name, row.state[0], is.0, should.0));
     }
     if should.0[0] != 0 {
         return Err(format!("{}, n = {}: refused with {}", row.name, row.state[0], should.0[0]));
     }
-    let (mut of_core, mut of_safe) = (Round::new(core, row), Round::new(safe, row));
-    Ok(best_of(|| of_core.once(), || of_safe.once()))
-}
-
-/// Times check where no queue is in order, beside the safe check that compares in pairs as the core does.
-pub fn in_pairs(core: &dyn Engine, state: &[u8]) -> Result<Best, String> {
-    if core.check(state) != 0 || check_in_pairs(state) != 0 {
-        return Err(format!("a state of n = {} turned round is refused", state[0]));
-    }
-    fn timed(check: impl Fn(&[u8]) -> u32, state: &[u8]) -> f64 {
-        let start = Instant::now();
-        black_box(check(black_box(state)));
-        each(start, 1)
-    }
-    Ok(best_of(|| timed(|state| core.check(state), state), || timed(check_in_pairs, state)))
+    let (mut of_core, mut of_beside) = (Round::new(core, row), Round::new(beside, row));
+    // Each as often as the other: a call that is done again finds its bytes in the cache.
+    let often = of_core.often.max(of_beside.often);
+    (of_core.often, of_beside.often) = (often, often);
+    Ok(best_of(|| of_core.once(), || of_beside.once()))
 }
 
 /// Times the writing of a thousand event records.
-pub fn write(core: &dyn Engine, safe: &dyn Engine) -> Result<Best, String> {
+pub fn write(core: &dyn Engine, beside: &dyn Engine) -> Result<Best, String> {
     let events = events();
     let all = |engine: &dyn Engine, out: &mut Vec<u8>| {
         let mut place = 0;
@@ -134,8 +130,8 @@ pub fn write(core: &dyn Engine, safe: &dyn Engine) -> Result<Best, String> {
         }
         place
     };
-    let (mut of_core, mut of_safe) = (vec![0; 8000], vec![0; 8000]);
-    if all(core, &mut of_core) != all(safe, &mut of_safe) || of_core != of_safe {
+    let (mut of_core, mut of_beside) = (vec![0; 8000], vec![0; 8000]);
+    if all(core, &mut of_core) != all(beside, &mut of_beside) || of_core != of_beside {
         return Err("written events differ".to_string());
     }
     let timed = |engine: &dyn Engine, out: &mut Vec<u8>| {
@@ -143,11 +139,11 @@ pub fn write(core: &dyn Engine, safe: &dyn Engine) -> Result<Best, String> {
         black_box(all(engine, black_box(out)));
         each(start, 1)
     };
-    Ok(best_of(|| timed(core, &mut of_core), || timed(safe, &mut of_safe)))
+    Ok(best_of(|| timed(core, &mut of_core), || timed(beside, &mut of_beside)))
 }
 
 /// Times the reading of a thousand event records.
-pub fn read(core: &dyn Engine, safe: &dyn Engine) -> Result<Best, String> {
+pub fn read(core: &dyn Engine, beside: &dyn Engine) -> Result<Best, String> {
     let script = script();
     let all = |engine: &dyn Engine| {
         let (mut place, mut sum) = (0, 0_u64);
@@ -159,7 +155,7 @@ pub fn read(core: &dyn Engine, safe: &dyn Engine) -> Result<Best, String> {
             sum += u64::from(read.kind ^ read.first ^ read.second);
         }
     };
-    if all(core) != all(safe) {
+    if all(core) != all(beside) {
         return Err("read events differ".to_string());
     }
     let timed = |engine: &dyn Engine| {
@@ -167,18 +163,24 @@ pub fn read(core: &dyn Engine, safe: &dyn Engine) -> Result<Best, String> {
         black_box(all(engine));
         each(start, 1)
     };
-    Ok(best_of(|| timed(core), || timed(safe)))
+    Ok(best_of(|| timed(core), || timed(beside)))
 }
 
-/// Times a plain pass over bytes: their sum.
-pub fn plain(bytes: &[u8]) -> f64 {
-    let often = (CLOCK * 20.0 / bytes.len() as f64) as u32 + 1;
-    let timed = || {
+/// A plain pass over bytes: their sum. That of 256 fits into 16 bits, so that many bytes are added at once.
+fn summed(bytes: &[u8]) -> u64 {
+    let block = |block: &[u8]| block.iter().map(|&byte| u16::from(byte)).sum::<u16>();
+    bytes.chunks(256).map(|bytes| u64::from(block(bytes))).sum()
+}
+
+/// How many plain passes over the state a check takes, on the same bytes.
+pub fn plain_passes(engine: &dyn Engine, state: &[u8]) -> f64 {
+    let often = (CLOCK * 20.0 / state.len() as f64) as u32 + 1;
+    let timed = |work: &dyn Fn(&[u8]) -> u64| {
         let start = Instant::now();
         for _ in 0..often {
-            black_box(black_box(bytes).iter().map(|&byte| u64::from(byte)).sum::<u64>());
+            black_box(work(black_box(state)));
         }
         each(start, often)
     };
-    best_of(timed, timed).core
+    best_of(|| timed(&|state| u64::from(engine.check(state))), || timed(&summed)).ratio()
 }

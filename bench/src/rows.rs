@@ -3,6 +3,7 @@
 use crate::safe::Safe;
 use crate::safe::parts::PartsMut;
 use hop_harness::compare::call::Call;
+use hop_harness::compare::random::Random;
 use hop_harness::engine::Engine;
 
 /// The node counts: each doubles the one before, so that growth can be read off.
@@ -34,13 +35,30 @@ fn complete(n: usize) -> Vec<u8> {
     with_links(n, (0..n).flat_map(|a| (a + 1..n).map(move |b| (a, b))))
 }
 
-/// The same with every queue turned round, which is as sound: no destination is below the next one.
-pub fn backward(n: usize) -> Vec<u8> {
+/// The same with every queue in another order, which is as sound.
+fn reordered(n: usize, mut reorder: impl FnMut(&mut [(u8, u8)])) -> Vec<u8> {
     let mut state = complete(n);
     let parts = PartsMut::of(&mut state, n);
-    parts.destinations.chunks_exact_mut(n).for_each(<[u8]>::reverse);
-    parts.values.chunks_exact_mut(n).for_each(<[u8]>::reverse);
+    let queues = parts.destinations.chunks_exact_mut(n).zip(parts.values.chunks_exact_mut(n));
+    for (destinations, values) in queues {
+        let mut entries: Vec<(u8, u8)> = destinations.iter().copied().zip(values.iter().copied()).collect();
+        reorder(&mut entries);
+        for (place, (destination, value)) in entries.into_iter().enumerate() {
+            (destinations[place], values[place]) = (destination, value);
+        }
+    }
     state
+}
+
+/// Every queue turned round: no destination is below the next one.
+fn backward(n: usize) -> Vec<u8> {
+    reordered(n, <[_]>::reverse)
+}
+
+/// Every queue in an order of its own, the same at each run.
+fn shuffled(n: usize) -> Vec<u8> {
+    let mut random = Random::new(n as u64);
+    reordered(n, |entries| random.shuffle(entries))
 }
 
 fn line(n: usize) -> Vec<u8> {
@@ -61,7 +79,7 @@ fn at_rest(mut state: Vec<u8>) -> Vec<u8> {
     state
 }
 
-/// A network in the middle of its work: every other link of a complete one, one pass made.
+/// A network in the middle of its work: every third link of a complete one, one pass made.
 fn at_work(n: usize) -> Vec<u8> {
     let mut state =
         with_links(n, (0..n).flat_map(|a| (a + 1..n).map(move |b| (a, b))).filter(|(a, b)| (a + b) % 3 == 0));
@@ -75,7 +93,11 @@ pub fn checks(n: usize) -> Vec<Row> {
     vec![
         row("check, fresh", fresh(n)),
         row("check, all queues full", complete(n)),
+        row("check, full, none in order", backward(n)),
+        row("check, full, shuffled", shuffled(n)),
+        row("check, at work", at_work(n)),
         row("check, at rest, a line", at_rest(line(n))),
+        row("check, at rest, four links", at_rest(four_links(n))),
         row("check, at rest, all links", at_rest(complete(n))),
     ]
 }
@@ -88,9 +110,12 @@ pub fn rows(n: usize) -> Vec<Row> {
     rows.extend(checks(n));
     rows.extend([
         row("up, at rest, a line", at_rest(line(n)), Call::Up { a: 0, b: last }),
+        row("up, at rest, four links", at_rest(four_links(n)), Call::Up { a: 0, b: n / 2 }),
         row("down, at rest, a line", at_rest(line(n)), Call::Down { a: 0, b: 1 }),
+        row("down, at rest, four links", at_rest(four_links(n)), Call::Down { a: 0, b: 1 }),
         row("down, at rest, all links", at_rest(complete(n)), Call::Down { a: 0, b: last }),
         row("deliver, all queues full", complete(n), Call::Deliver { from: 0, to: last }),
+        row("deliver, full, four links", four_links(n), Call::Deliver { from: 0, to: 1 }),
         row("pass, all queues full", complete(n), Call::Pass),
         row("pass, at work", at_work(n), Call::Pass),
         row("pass, at rest", at_rest(complete(n)), Call::Pass),

@@ -13,10 +13,6 @@ type Judged<T> = Result<T, u32>;
 
 /// The node count of a sound state.
 fn sound_state(buffer: &[u8]) -> Judged<usize> {
-    sound_by(buffer, sound::<false>)
-}
-
-fn sound_by(buffer: &[u8], is_sound: fn(&Parts) -> bool) -> Judged<usize> {
     let n = usize::from(*buffer.first().ok_or(2_u32)?);
     if !(1..=40).contains(&n) {
         return Err(1);
@@ -24,12 +20,7 @@ fn sound_by(buffer: &[u8], is_sound: fn(&Parts) -> bool) -> Judged<usize> {
     if buffer.len() < size(n) {
         return Err(2);
     }
-    if is_sound(&Parts::of(buffer, n)) { Ok(n) } else { Err(3) }
-}
-
-/// Check, with the destinations of a queue compared in pairs. It is not one of the calls: it is timed beside them.
-pub fn check_in_pairs(state: &[u8]) -> u32 {
-    code(sound_by(state, sound::<true>).map(|_| ()))
+    if sound(&Parts::of(buffer, n)) { Ok(n) } else { Err(3) }
 }
 
 fn below(n: usize, a: usize, b: usize) -> Judged<()> {
