@@ -19,7 +19,8 @@ use Rattle.hop_rows.specs.Rows.{row, byte, bothAre}
 use Rattle.hop_sound_pairs.specs.Pairs.{linkSound, downSound, idleSound, toldSound, busySound, queueSound, upSound, pairSound}
 use Rattle.hop_sound.specs.Check.{routeSound, viewsSound, pastSound, sentSound, nodeSound, allSound}
 use Rattle.hop_rows.proofs.RowTests.{Reads, tells-are, tells-both, tells-below, tells-same-rows}
-use Rattle.hop_sound_rows.proofs.SoundTests.{Allows, tells-differing, tells-allow, tells-told}
+use Rattle.hop_seen.proofs.Seen.{tells-differing}
+use Rattle.hop_sound_rows.proofs.SoundTests.{Allows, tells-allow, tells-told}
 use Rattle.hop_sound.proofs.Routes.{Given}
 
 -- A choice of tests tells what each of them tells in its case.

@@ -7,7 +7,8 @@ use Rattle.hop_rule.specs.declared.Table.the-variants.{Links, Distances, Downst
 use Rattle.hop_rule.specs.Words.{if_then_else_}
 use Rattle.hop_cells.specs.Cells.{get2}
 use Rattle.hop_rows.specs.Rows.{row, allAre, allBelow, same}
-use Rattle.hop_sound_rows.specs.SoundRows.{differing, allAllow, allTold}
+use Rattle.hop_seen.specs.Seen.{differing}
+use Rattle.hop_sound_rows.specs.SoundRows.{allAllow, allTold}
 
 -- The link byte of u and w is 0 or 1, the same at both ends, and 0 on the diagonal.
 unfoldable pub linkSound : ℕ → List ℕ → ℕ → ℕ → Bool

@@ -69,21 +69,13 @@ fn told_sound(s: &[u8], n: usize, u: usize, w: usize, m: usize) -> bool
     )
 }
 
-// Ascending destinations, as link up puts them, differ, and the last is the greatest. If all n wait, each stands at its own place.
+// Ascending destinations differ, and the last is the greatest.
 fn ordered_sound(s: &[u8], n: usize, u: usize, w: usize, m: usize) -> bool
     requires { ⌜ Room n (now s) × (u < n) × (w < n) × (m ≤ n) × (0 < m) × (rising (now s) (row n Destinations (w * n + u)) (m - 1) ≡ true) ⌝ }
     ensures { λ r. ⌜ r ≡ check.busySound n (now (s .entry)) u w m ⌝ }
 {
     if n <= hop_cells::get3(s, n, Table::Destinations, w, u, m - 1) {
         return false;
-    }
-    if m == n {
-        return hop_rows::same(
-            s,
-            hop_rows::row3(n, Table::Values, w, u),
-            hop_rows::row2(n, Table::Distances, w),
-            n,
-        );
     }
     told_sound(s, n, u, w, m)
 }
@@ -97,16 +89,56 @@ fn mixed_sound(s: &[u8], n: usize, u: usize, w: usize, m: usize) -> bool
     if !hop_rows::all_below(s, destinations, m, n as u8) {
         return false;
     }
-    if !hop_sound_rows::differing(s, destinations, m) {
+    if !hop_seen::differing(s, destinations, m) {
         return false;
     }
     told_sound(s, n, u, w, m)
 }
 
+// A full queue in any order. With fewer than 5 nodes a byte that is no destination could point past the buffer; below 8 the queue is judged as one that is not full.
+fn mixed_full_sound(s: &[u8], n: usize, u: usize, w: usize) -> bool
+    requires { ⌜ Room n (now s) × (u < n) × (w < n) ⌝ }
+    ensures { λ r. ⌜ r ≡ check.busySound n (now (s .entry)) u w n ⌝ }
+{
+    if n < 8 {
+        return mixed_sound(s, n, u, w, n);
+    }
+    hop_seen::full(
+        s,
+        n,
+        hop_rows::row2(n, Table::Distances, w),
+        hop_rows::row3(n, Table::Destinations, w, u),
+        hop_rows::row3(n, Table::Values, w, u),
+    )
+}
+
+// A full queue as link up puts it counts up, and value v is the one for v. One that does not start at 0 is in another order.
+fn full_sound(s: &[u8], n: usize, u: usize, w: usize) -> bool
+    requires { ⌜ Room n (now s) × (u < n) × (w < n) ⌝ }
+    ensures { λ r. ⌜ r ≡ check.busySound n (now (s .entry)) u w n ⌝ }
+{
+    let destinations = hop_rows::row3(n, Table::Destinations, w, u);
+    if s[destinations] == 0 {
+        if hop_sound_rows::counting(s, destinations, n) {
+            return hop_rows::same(
+                s,
+                hop_rows::row3(n, Table::Values, w, u),
+                hop_rows::row2(n, Table::Distances, w),
+                n,
+            );
+        }
+    }
+    mixed_full_sound(s, n, u, w)
+}
+
+// A full queue needs no view, and so comes first; a part of one that rises needs no set.
 fn busy_sound(s: &[u8], n: usize, u: usize, w: usize, m: usize) -> bool
     requires { ⌜ Room n (now s) × (u < n) × (w < n) × (m ≤ n) × (0 < m) ⌝ }
     ensures { λ r. ⌜ r ≡ check.busySound n (now (s .entry)) u w m ⌝ }
 {
+    if m == n {
+        return full_sound(s, n, u, w);
+    }
     if hop_sound_rows::rising(s, hop_rows::row3(n, Table::Destinations, w, u), m - 1) {
         return ordered_sound(s, n, u, w, m);
     }

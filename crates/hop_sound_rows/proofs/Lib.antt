@@ -1,3 +1,5 @@
-pub mod ToldRows
-pub mod SoundTests
+pub mod FullRows
 pub mod RisingRows
+pub mod SoundTests
+pub mod ToldRows
+pub mod Windows

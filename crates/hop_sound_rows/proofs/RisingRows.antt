@@ -1,19 +1,17 @@
--- A row that rises: its bytes differ, the last is the greatest, and where n of them are below n each stands at its own place. Assumes nothing.
-use mathlib.Core.Path.{_≡_, refl, sym, ap, _∙_}
+-- A row that rises: its bytes differ, and the last is the greatest. Assumes nothing.
+use mathlib.Core.Path.{_≡_, refl, ap}
 use mathlib.Core.Bool.{true, false}
 use mathlib.Core.List.{List}
 use Prim.Native.Nat.{ℕ, zero, suc, _+_, _-_, _≤_, _<_}
 use native.Mathlib.Decide.{ℕ-discrete}
 use native.Mathlib.Omega.{arith}
-use lib.Dec.{eqb}
 use lib.ListN.{getD}
 use Rattle.hop_laws.proofs.Tests.{tells-lt, tells-every, tells-false}
-use Rattle.hop_rows.specs.Rows.{byte, allBelow, same}
-use Rattle.hop_rows.proofs.Every.{every-as}
+use Rattle.hop_rows.specs.Rows.{byte, allBelow}
 use Rattle.hop_rows.proofs.RowTests.{tells-below}
-use Rattle.hop_sound_rows.specs.SoundRows.{differing, rising, toldByte, allTold}
-use Rattle.hop_sound_rows.proofs.SoundTests.{tells-differing}
-use Rattle.hop_sound_rows.proofs.ToldRows.{told-there}
+use Rattle.hop_seen.specs.Seen.{differing}
+use Rattle.hop_seen.proofs.Seen.{tells-differing}
+use Rattle.hop_sound_rows.specs.SoundRows.{rising}
 
 -- What rises at each step has risen by as many as there are steps.
 climbs : (f : ℕ → ℕ) (k : ℕ) → ((i : ℕ) → i < k → f i < f (suc i)) → (i j : ℕ) → i ≤ j → j ≤ k → f i + (j - i) ≤ f j
@@ -49,14 +47,3 @@ module _ (s : List ℕ) (at m : ℕ) (e : rising s at (m - 1) ≡ true) where
 
     pub rising-below : byte s at (m - 1) < n → allBelow s at m n ≡ true
     rising-below l = tells-below (record { reads = λ i. refl }) m n .if-so (λ i h. omega (arith, rises i (m - 1) (omega arith) (omega arith)))
-
-    -- Where n wait, value v is the one for v.
-    pub rising-full : byte s at (m - 1) < n → m ≡ n → (views distances values : ℕ) → allTold s n views distances at values m ≡ same s values distances n
-    unfolding allTold same
-    rising-full l i views distances values = every-as n (λ v h. ap (λ (x : ℕ). eqb x (byte s distances v)) (value v (omega arith)))
-      where
-        here : (v : ℕ) → v < m → byte s at v ≡ v
-        here v h = omega (arith, rises 0 v (omega arith) h, rises v (m - 1) (omega arith) (omega arith))
-
-        value : (v : ℕ) → v < m → toldByte s views at values m v ≡ byte s values v
-        value v h = ap (λ (x : ℕ). toldByte s views at values m x) (sym (here v h)) ∙ told-there (byte s views) (byte s at) (byte s values) m differs v h

@@ -3,14 +3,16 @@ use mathlib.Core.Path.{_≡_, refl, sym, _∙_}
 use mathlib.Core.Logic.{_≢_}
 use mathlib.Core.Bool.{Bool, true, false, cond}
 use mathlib.Core.List.{List}
-use Prim.Native.Nat.{ℕ, suc, _-_, _≤_, _<_}
+use Prim.Native.Nat.{ℕ, suc, _-_, max, _≤_, _<_}
 use native.Mathlib.Decide.{ℕ-discrete, decLt}
 use native.Mathlib.Omega.{arith}
-use lib.Dec.{leb}
+use lib.Bits.{bitXor}
+use lib.Dec.{eqb, leb}
 use borrow.Author.Tests.{le-leb, lt-leb}
-use Rattle.hop_laws.proofs.Tests.{Tells, tells-as, tells-not-so, tells-eq, tells-le, tells-lt, tells-not, tells-and, tells-every}
-use Rattle.hop_rows.proofs.RowTests.{Reads, tells-none}
-use Rattle.hop_sound_rows.specs.SoundRows.{differing, leastView, allAllow, told, allTold}
+use Rattle.hop_laws.proofs.Tests.{Tells, tells-as, tells-same, tells-not-so, tells-eq, tells-le, tells-lt, tells-not, tells-and, tells-every}
+use Rattle.hop_rows.proofs.RowTests.{Reads}
+use Rattle.hop_seen.proofs.Faults.{xor-none}
+use Rattle.hop_sound_rows.specs.SoundRows.{leastView, allAllow, told, allTold}
 use Rattle.hop_sound_rows.proofs.ToldRows.{told-as, told-there, told-else, told-is}
 
 -- A view x from w allows distance d by way of h: it gives no less than d, and if it gives d, which is not n, then h is not past w.
@@ -34,10 +36,9 @@ below-least e l = rw (← e) (lt-leb _ _ l)
 pub reaches-least : {y z x : ℕ} → y ≡ z → y ≤ x → leb z x ≡ true
 reaches-least e l = rw (← e) (le-leb _ _ l)
 
-module _ {s : List ℕ} {at : ℕ} {f : ℕ → ℕ} (r : Reads s at f) where
-  pub tells-differing : (k : ℕ) → Tells (differing s at k) ((i : ℕ) → i < k → (j : ℕ) → j < i → f j ≡ f i → ⊥)
-  unfolding differing
-  tells-differing k = tells-every k (λ i l. rw (r .reads i) (tells-none r i (f i)))
+-- And where the greater of a view and the least one is the view.
+pub short-none : (x : ℕ) {y l z : ℕ} → y ≡ max x l → l ≡ z → eqb (bitXor x y) 0 ≡ leb z x
+short-none x {z = z} e f = xor-none x _ ∙ rw (e, f) (tells-same (tells-as (λ i. omega (arith, i)) (λ l. omega (arith, l)) (tells-eq x (max x z))) (tells-le z x))
 
 module _ {s : List ℕ} {distances : ℕ} {d : ℕ → ℕ} (rd : Reads s distances d) where
   pub tells-allow : {views downstreams : ℕ} {x h : ℕ → ℕ} → Reads s views x → Reads s downstreams h

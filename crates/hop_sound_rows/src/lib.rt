@@ -1,8 +1,9 @@
-// Tests of rows of bytes that only the soundness check makes. A loop goes straight over a row, as in hop_rows, but for `differing`, which has a way out.
+// Tests of rows of bytes that only the soundness check makes. A loop goes straight over a row, as in hop_rows.
 
 ghost use mathlib.Core.Path.{_≡_};
 ghost use mathlib.Core.Bool.{true};
-ghost use Prim.Native.Nat.{ℕ, _+_, _-_, _<_, _≤_};
+ghost use Prim.Native.Nat.{ℕ, _+_, _-_, max, _<_, _≤_};
+ghost use lib.Dec.{eqb};
 ghost use lib.ListN.{length, getD};
 ghost use Rattle.hop_rows.specs.Rows.{byte, allBelow};
 ghost use Rattle.hop_sound_rows.specs.SoundRows as check;
@@ -21,17 +22,18 @@ pub fn rising(s: &[u8], at: usize, k: usize) -> bool
     ok
 }
 
-// No two bytes of a row are equal: each is compared with those before it.
-pub fn differing(s: &[u8], at: usize, k: usize) -> bool
-    requires { ⌜ at + k ≤ length (now s) ⌝ }
-    ensures { λ r. ⌜ r ≡ check.differing (now (s .entry)) at k ⌝ }
+// A row counts up: 0, 1, .. k − 1.
+pub fn counting(s: &[u8], at: usize, k: usize) -> bool
+    requires { ⌜ (k ≤ 40) × (at + k ≤ length (now s)) ⌝ }
+    ensures { λ r. ⌜ r ≡ check.counting (now (s .entry)) at k ⌝ }
 {
+    let mut ok = true;
     for i in 0..k {
-        if !hop_rows::none_is(s, at, i, s[at + i]) {
-            return false;
+        if s[at + i] != i as u8 {
+            ok = false;
         }
     }
-    true
+    ok
 }
 
 // One less, if there is less.
@@ -55,8 +57,35 @@ fn least_view(n: u8, w: u8, d: u8, h: u8) -> u8
     e
 }
 
-// Each of a row of n views from w is at least that.
-pub fn all_allow(s: &[u8], n: u8, w: u8, views: usize, distances: usize, downstreams: usize) -> bool
+// The greater of two bytes.
+fn greater(a: u8, b: u8) -> u8
+    ensures { λ r. ⌜ r ≡ max a b ⌝ }
+{
+    if a < b {
+        return b;
+    }
+    a
+}
+
+// 0 where view v from w is at least that, and else some bits. Put together by `|` they keep a loop straight, where tests would not.
+fn short_at(
+    s: &[u8],
+    n: u8,
+    w: u8,
+    views: usize,
+    distances: usize,
+    downstreams: usize,
+    v: usize,
+) -> u8
+    requires { ⌜ (views + v < length (now s)) × (distances + v < length (now s)) × (downstreams + v < length (now s)) ⌝ }
+    ensures { λ r. ⌜ eqb r 0 ≡ check.allows (now (s .entry)) n w views distances downstreams v ⌝ }
+{
+    let x = s[views + v];
+    x ^ greater(x, least_view(n, w, s[distances + v], s[downstreams + v]))
+}
+
+// Each of a row of n views from w is at least that: one by one,
+fn each_allows(s: &[u8], n: u8, w: u8, views: usize, distances: usize, downstreams: usize) -> bool
     requires { ⌜ (views + n ≤ length (now s)) × (distances + n ≤ length (now s)) × (downstreams + n ≤ length (now s)) ⌝ }
     ensures { λ r. ⌜ r ≡ check.allAllow (now (s .entry)) n w views distances downstreams ⌝ }
 {
@@ -68,6 +97,76 @@ pub fn all_allow(s: &[u8], n: u8, w: u8, views: usize, distances: usize, downstr
         }
     }
     ok
+}
+
+// or 8 to 16 of them as the first eight and the last eight. Where these overlap a view is looked at twice, but none is left over to be looked at alone,
+fn eights_allow(
+    s: &[u8],
+    n: u8,
+    w: u8,
+    views: usize,
+    distances: usize,
+    downstreams: usize,
+    last: usize,
+) -> bool
+    requires { ⌜ (views + n ≤ length (now s)) × (distances + n ≤ length (now s)) × (downstreams + n ≤ length (now s)) × (last + 8 ≡ n) × (last ≤ 8) ⌝ }
+    ensures { λ r. ⌜ r ≡ check.allAllow (now (s .entry)) n w views distances downstreams ⌝ }
+{
+    let mut faults = 0u8;
+    for v in 0..8 {
+        faults = faults
+            | (short_at(s, n, w, views, distances, downstreams, v)
+                | short_at(s, n, w, views, distances, downstreams, last + v));
+    }
+    faults == 0
+}
+
+// or 16 to 48 as three sixteens. (Up to 32 the middle one is the last, and judged twice.)
+fn sixteens_allow(
+    s: &[u8],
+    n: u8,
+    w: u8,
+    views: usize,
+    distances: usize,
+    downstreams: usize,
+    middle: usize,
+    last: usize,
+) -> bool
+    requires { ⌜ (views + n ≤ length (now s)) × (distances + n ≤ length (now s)) × (downstreams + n ≤ length (now s)) × (last + 16 ≡ n) × (middle ≤ 16) × (middle ≤ last) × (last ≤ middle + 16) ⌝ }
+    ensures { λ r. ⌜ r ≡ check.allAllow (now (s .entry)) n w views distances downstreams ⌝ }
+{
+    let mut faults = 0u8;
+    for v in 0..16 {
+        faults = faults
+            | (short_at(s, n, w, views, distances, downstreams, v)
+                | short_at(s, n, w, views, distances, downstreams, middle + v)
+                | short_at(s, n, w, views, distances, downstreams, last + v));
+    }
+    faults == 0
+}
+
+// The way that n asks for.
+pub fn all_allow(s: &[u8], n: u8, w: u8, views: usize, distances: usize, downstreams: usize) -> bool
+    requires { ⌜ (n ≤ 40) × (views + n ≤ length (now s)) × (distances + n ≤ length (now s)) × (downstreams + n ≤ length (now s)) ⌝ }
+    ensures { λ r. ⌜ r ≡ check.allAllow (now (s .entry)) n w views distances downstreams ⌝ }
+{
+    let k = n as usize;
+    if k < 8 {
+        return each_allows(s, n, w, views, distances, downstreams);
+    }
+    if k < 16 {
+        return eights_allow(s, n, w, views, distances, downstreams, k - 8);
+    }
+    sixteens_allow(
+        s,
+        n,
+        w,
+        views,
+        distances,
+        downstreams,
+        hop_cells::least(16, k - 16),
+        k - 16,
+    )
 }
 
 // A row of k bytes, by value.

@@ -3,6 +3,7 @@ use borrow.Author.Needs.{needs}
 use borrow.Author.Tests.{not-true, not-false}
 use Rattle.hop_sound_pairs.specs.Pairs.{busySound}
 use Rattle.hop_rows.proofs.Every.{passes}
+use Rattle.hop_seen.proofs.Seen.{below-more}
 use Rattle.hop_sound_pairs.proofs.mixed_sound.Statement.{statement}
 use Rattle.hop_sound_pairs.proofs.mixed_sound.Tie as tie
 
@@ -20,7 +21,7 @@ unfolding busySound
 returns c = simp (← c .before .before .row3 .ensures .0, ← c .before .all-below .ensures, not-true (c .before .all-below .result) (c .if1 .taken))
 
 differing-requires : tie.Need-differing-requires
-differing-requires c κs = search needs
+differing-requires c κs = (search needs, below-more _ _ _ (search needs) (passes (c .before .all-below .ensures) (c .if1 .left)))
 
 returns-2 : tie.Need-returns-2
 unfolding busySound

@@ -1,4 +1,4 @@
--- `all_allow` meets its contract: the mark is `every` of the views passed. Assumes nothing.
+-- `each_allows` meets its contract: the mark is `every` of the views passed. Assumes nothing.
 use mathlib.Core.Path.{_≡_, sym}
 use Prim.Native.Nat.{_-_, _≤_}
 use native.Mathlib.Omega.{arith}
@@ -9,8 +9,8 @@ use Rattle.hop_rows.specs.Rows.{byte}
 use Rattle.hop_rows.proofs.Every.{every-none, every-turn, every-done}
 use Rattle.hop_sound_rows.specs.SoundRows.{leastView, allAllow}
 use Rattle.hop_sound_rows.proofs.SoundTests.{below-least, reaches-least}
-use Rattle.hop_sound_rows.proofs.all_allow.Statement.{statement}
-use Rattle.hop_sound_rows.proofs.all_allow.Tie as tie
+use Rattle.hop_sound_rows.proofs.each_allows.Statement.{statement}
+use Rattle.hop_sound_rows.proofs.each_allows.Tie as tie
 
 abbrev Inv-loop : tie.InvT-loop
 Inv-loop s n w views distances downstreams k ok₀ v₀ ok v = (v ≤ k) × (ok ≡ every v (λ j. leb (leastView n w (byte s distances j) (byte s downstreams j)) (byte s views j)))
@@ -55,8 +55,8 @@ returns : tie.Need-returns Inv-loop μ-loop
 unfolding allAllow
 returns c = every-done _ _ _ (c .before .loop .inv .1) (c .before .loop .inv .0) (c .loop-test .left)
 
-pub all-allow-spec : {M : Type 1} → statement M
-all-allow-spec =
+pub each-allows-spec : {M : Type 1} → statement M
+each-allows-spec =
     tie.close
     (tie.spec
     Inv-loop

@@ -1,0 +1,4 @@
+pub mod Bits
+pub mod Faults
+pub mod Places
+pub mod Seen
