@@ -7,7 +7,9 @@ pub mod Records
 pub mod Calls
 pub mod Fixed
 pub mod Worth
+pub mod Why
 pub mod Numbers
 pub mod Damage
 pub mod Readings
 pub mod WorthTable
+pub mod WhyTable
