@@ -6,11 +6,13 @@ use mathlib.Core.List.{List, [], _∷_, _++_}
 use Prim.Native.Nat.{ℕ, _≤_, _<_}
 use native.Mathlib.Decide.{ℕ-discrete}
 use native.Mathlib.Omega.{arith}
+use lib.Dec.{eqb}
 use lib.ListN.{length}
 use borrow.Author.Tests.{eqb-false, ltb-false, not-false}
+use Rattle.hop_rule.specs.Words.{if_then_else_}
 use Rattle.hop_rule.specs.Stored.{size, nodes}
 use Rattle.hop_rule.specs.Sound.{isSoundBytes}
-use Rattle.hop_rule.specs.Calls.{Call, make, check, up, down, deliver, pass, run, distance, downstream, queueLength, totalQueued, status, writeEvent, Refusal, judge, empty, badCount, short, notSound, onState, refusals, answerAt, refused, done, outcome}
+use Rattle.hop_rule.specs.Calls.{Call, make, check, up, down, deliver, pass, run, distance, downstream, queueLength, totalQueued, status, writeEvent, Refusal, judge, empty, badCount, short, notSound, onState, refusals, Outcome, answerAt, refused, done, outcome}
 use Rattle.hop_laws.specs.Fine.{Fine}
 use Rattle.hop_laws.proofs.Tests.{Tells, tells-false, tells-not-so, tells-eq, tells-lt, tells-or, choose-so, choose-else}
 use Rattle.hop_laws.proofs.Sound.{sound-bytes-tells}
@@ -65,6 +67,14 @@ judge-passed (r ∷ rs) more h z = let (none, z₁) = judge-none r rs (h .0) z i
 
 -- ---- done or refused
 
+-- What is done has the number 0, so a call's number is what its refusals are judged to be.
+pub judged-number : {A : Type 0} (rs : List Refusal) (number : A → ℕ) (done refused : A) → number done ≡ 0 → number refused ≡ judge rs → number (if eqb (judge rs) 0 then done else refused) ≡ judge rs
+judged-number rs number done refused z r = go (ℕ-discrete (judge rs) 0)
+  where
+    go : Dec (judge rs ≡ 0) → number (if eqb (judge rs) 0 then done else refused) ≡ judge rs
+    go (yes none) = ap number (choose-so (tells-eq (judge rs) 0) done refused none) ∙ z ∙ sym none
+    go (no some) = ap number (choose-else (tells-eq (judge rs) 0) done refused some) ∙ r
+
 module _ (c : Call) (s out : List ℕ) where
   pub outcome-done : judge (refusals c s out) ≡ 0 → outcome c s out ≡ done c s out
   unfolding outcome
@@ -74,10 +84,9 @@ module _ (c : Call) (s out : List ℕ) where
   unfolding outcome
   outcome-refused f = choose-else (tells-eq (judge (refusals c s out)) 0) _ _ f
 
-  -- What is done has the number 0, so a call's number is what its refusals are judged to be.
   pub outcome-number : outcome c s out .number ≡ judge (refusals c s out)
-  unfolding done
-  outcome-number = go (ℕ-discrete (judge (refusals c s out)) 0)
+  unfolding outcome done
+  outcome-number = judged-number (refusals c s out) (λ (o : Outcome). o .number) _ _ done-number refl
     where
       done-number : done c s out .number ≡ 0
       done-number = elim c [
@@ -95,10 +104,6 @@ module _ (c : Call) (s out : List ℕ) where
         | status u ↦ refl
         | writeEvent e ↦ refl
       ]
-
-      go : Dec (judge (refusals c s out) ≡ 0) → outcome c s out .number ≡ judge (refusals c s out)
-      go (yes z) = ap (λ o. o .number) (outcome-done z) ∙ done-number ∙ sym z
-      go (no f) = ap (λ o. o .number) (outcome-refused f)
 
   -- The number 0 is 'done', with the answers that the call then has.
   pub done-answers : outcome c s out .number ≡ 0 → outcome c s out .answers ≡ done c s out .answers

@@ -1,12 +1,11 @@
 -- Laws of R-1's lines and of its call: how many lines there are, how their numbers go one behind the other, and that the call is done or refused. The pairs of a node are counted first, and then those of all nodes. Assumes nothing.
-use mathlib.Core.Path.{_≡_, refl, sym, ap, _∙_}
+use mathlib.Core.Path.{_≡_, refl, ap, _∙_}
 use mathlib.Core.Logic.{_≢_}
 use mathlib.Core.List.{List, [], _∷_, _++_}
 use Prim.Native.Nat.{ℕ, zero, suc, _+_, _*_, _-_, _≤_, _<_}
 use native.Mathlib.Nat.{suc-mul, mul-suc}
-use native.Mathlib.Decide.{ℕ-discrete, decLt}
+use native.Mathlib.Decide.{decLt}
 use native.Mathlib.Omega.{arith}
-use lib.Dec.{ltb}
 use lib.IntN.{ℤ}
 use lib.ListN.{length, length-append}
 use Rattle.hop_rule.specs.Words.{joined}
@@ -15,6 +14,7 @@ use Rattle.hop_rule.specs.Calls.{judge}
 use Rattle.hop_rule.specs.Worth.{Line, line, lines, seven, numbers, worthRefusals, Valued, worthDone, worth}
 use Rattle.hop_laws.specs.Lines.{linesOf, linesBelow}
 use Rattle.hop_laws.proofs.Tests.{tells-eq, tells-lt, choose-so, choose-else}
+use Rattle.hop_laws.proofs.Calls.{judged-number}
 
 -- ---- numbers
 
@@ -90,9 +90,5 @@ module _ (s trial : List ℕ) (list : List ℤ) where
   worth-refused f = choose-else (tells-eq (judge (worthRefusals s trial list)) 0) _ _ f
 
   pub worth-number : worth s trial list .number ≡ judge (worthRefusals s trial list)
-  unfolding worthDone
-  worth-number = go (ℕ-discrete (judge (worthRefusals s trial list)) 0)
-    where
-      go : Dec (judge (worthRefusals s trial list) ≡ 0) → worth s trial list .number ≡ judge (worthRefusals s trial list)
-      go (yes z) = ap (λ (o : Valued). o .number) (worth-done z) ∙ sym z
-      go (no f) = ap (λ (o : Valued). o .number) (worth-refused f)
+  unfolding worth worthDone
+  worth-number = judged-number (worthRefusals s trial list) (λ (v : Valued). v .number) _ _ refl refl

@@ -21,6 +21,9 @@ pub mod Bridges
 pub mod Worth
 pub mod Lines
 pub mod WorthCall
+pub mod Chosen
+pub mod Why
+pub mod WhyCall
 pub mod Top
 pub mod Attained
 pub mod OnBytes

@@ -54,7 +54,7 @@ module _ (f r : List ℕ) (room : size (nodes f) ≤ length f) where
       go (no k) = state-refused (f ++ r) more (λ z. k (sym own ∙ z)) ∙ own ∙ sym (state-refused f less k)
 
   -- Arguments are compared only where both are nodes.
-  nodes-judged : (a b : ℕ) (more less : List Refusal) → (a < nodes f → b < nodes f → judge more ≡ judge less)
+  pub nodes-judged : (a b : ℕ) (more less : List Refusal) → (a < nodes f → b < nodes f → judge more ≡ judge less)
       → judge (noNode (f ++ r) a ∷ noNode (f ++ r) b ∷ more) ≡ judge (noNode f a ∷ noNode f b ∷ less)
   nodes-judged a b more less h =
       rw (nodes-same f r room) (judge-rest (noNode f a) _ _ (λ x. judge-rest (noNode f b) more less (λ y. h (leb-false (nodes f) a x) (leb-false (nodes f) b y))))

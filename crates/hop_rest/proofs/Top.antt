@@ -8,6 +8,7 @@ use Rattle.hop_rest.specs.Accepted.{AcceptedStays, MadeAccepted}
 use Rattle.hop_rest.specs.Tails.{TailsUnread, TwoTailsOneAnswer, MakeReadsNothing}
 use Rattle.hop_rest.specs.Ends.{EitherEndFirst}
 use Rattle.hop_rest.specs.Worth.{EveryLineTells, EveryLineFits, EveryPairHasItsLine, EveryWorthTells, WorthTailUnread}
+use Rattle.hop_rest.specs.Why.{EveryReasonShows, SidesApart, PathsAreWalks, ClosedSetsPart, EveryWhyTells, ListOfNFits, WhyTailUnread}
 use Rattle.hop_rest.proofs.Comes as comes
 use Rattle.hop_rest.proofs.OnBytes as bytes
 use Rattle.hop_rest.proofs.Delivering as bytes-by-deliveries
@@ -18,6 +19,8 @@ use Rattle.hop_rest.proofs.Ends as ends
 use Rattle.hop_rest.proofs.Worth as worth
 use Rattle.hop_rest.proofs.Lines as lines
 use Rattle.hop_rest.proofs.WorthCall as worth-call
+use Rattle.hop_rest.proofs.Why as why
+use Rattle.hop_rest.proofs.WhyCall as why-call
 
 -- ---- coming to rest, of states; of bytes by a run, and by single deliveries
 
@@ -87,3 +90,26 @@ every-worth-tells = worth-call.worth-tells
 
 pub worth-tail-unread : WorthTailUnread
 worth-tail-unread = worth-call.worth-tail-unread
+
+-- ---- why a node reaches a destination, or not
+
+pub every-reason-shows : EveryReasonShows
+every-reason-shows = why.reasons-show
+
+pub sides-apart : SidesApart
+sides-apart = why.sides-apart
+
+pub paths-are-walks : PathsAreWalks
+paths-are-walks = why.paths-are-walks
+
+pub closed-sets-part : ClosedSetsPart
+closed-sets-part = why.closed-sets-part
+
+pub every-why-tells : EveryWhyTells
+every-why-tells = why-call.why-tells
+
+pub list-of-n-fits : ListOfNFits
+list-of-n-fits = why-call.list-of-n-fits
+
+pub why-tail-unread : WhyTailUnread
+why-tail-unread = why-call.why-tail-unread

@@ -1,4 +1,4 @@
--- Laws of walks: how one begins, that they can be put together and turned round, that a pair has one hop count, which no further link makes larger, and that whatever falls by at most one at each link is below n where a walk leads. Assumes nothing.
+-- Laws of walks: how one begins and ends, that they can be put together and turned round, that a pair has one hop count, which no further link makes larger, and that whatever falls by at most one at each link is below n where a walk leads. Assumes nothing.
 use mathlib.Core.Path.{_≡_, refl, sym, subst, _∙_}
 use mathlib.Core.Logic.{_⊎_, inl, inr, _≢_}
 use Prim.Native.Nat.{ℕ, suc, _≤_, _<_}
@@ -22,6 +22,11 @@ pub record Begins (s : State) (u v d : ℕ) : Type 0 where
 pub walk-begins : {s : State} {u v d : ℕ} → Walk s u v d → (u ≡ v) ⊎ Begins s u v d
 walk-begins here = inl refl
 walk-begins (hop {w = w} {d = d} lu lw q p) = inr (record { next = w; left = d; below = lw; linked = q; walk = p; one-more = refl })
+
+-- From a node it ends at a node.
+pub walk-below : {s : State} {u v d : ℕ} → Walk s u v d → u < s .n → v < s .n
+walk-below here lu = lu
+walk-below (hop l lw q p) lu = walk-below p lw
 
 -- Some walk leads from u to v. Walks can be put together, and turned round where links are up at both ends.
 abbrev pub Reaches : State → ℕ → ℕ → Type 0

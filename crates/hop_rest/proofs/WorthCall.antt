@@ -10,10 +10,9 @@ use lib.Dec.{eqb, ltb}
 use lib.IntN.{ℤ}
 use lib.ListN.{length, take, drop, take-append-drop}
 use lib.Seq.{length-take-le, take-append-le}
-use borrow.Author.Tests.{eqb-true, not-false}
 use Rattle.hop_rule.specs.Words.{if_then_else_, joined}
 use Rattle.hop_rule.specs.State.{State}
-use Rattle.hop_rule.specs.Rule.{linkUp, linkDown, total, delivered}
+use Rattle.hop_rule.specs.Rule.{linkUp, linkDown, delivered}
 use Rattle.hop_rule.specs.Stored.{size, nodes, readAs, read}
 use Rattle.hop_rule.specs.Sound.{Sound}
 use Rattle.hop_rule.specs.Records.{written}
@@ -28,12 +27,11 @@ use Rattle.hop_laws.proofs.Tails.{nodes-same, read-same}
 use Rattle.hop_laws.proofs.Calls.{judge-none, state-fine}
 use Rattle.hop_laws.proofs.Accepted.{fine-accepted}
 use Rattle.hop_laws.proofs.Worth.{worth-done, worth-refused, worth-number}
-use Rattle.hop_rest.specs.Rest.{AtRest}
 use Rattle.hop_rest.specs.Accepted.{Accepted}
 use Rattle.hop_rest.specs.Tails.{form}
 use Rattle.hop_rest.specs.Worth.{placeOf, EveryWorthTells}
 use Rattle.hop_rest.proofs.Kept.{passes-keeps-sound}
-use Rattle.hop_rest.proofs.Settling.{total-rest}
+use Rattle.hop_rest.proofs.Settling.{judged-rest}
 use Rattle.hop_rest.proofs.Same.{up-same, down-same, passes-same, total-same, made-same, delivered-same}
 use Rattle.hop_rest.proofs.Tails.{state-judged, tails-unread}
 use Rattle.hop_rest.proofs.Changes.{Agree, lost-same, change-same}
@@ -142,7 +140,7 @@ worth-tells s trial list done =
     let z : judge (worthRefusals s trial list) ≡ 0 = sym (worth-number s trial list) ∙ done in
     let (fine, z₁) = state-fine s _ z in
     let (none, z₂) = judge-none (notAtRest s) _ (omega arith) z₁ in
-    let rest : AtRest (read s) = total-rest (read s) (eqb-true (total (read s)) 0 (not-false _ none)) in
+    let rest = judged-rest (read s) none in
     let few : nodes s ≤ 255 = omega (arith, fine .most) in
     record {
       tells = λ a b ascends inside. (line-tells (read s) (fine .sound .state) rest few a b ascends inside, line-fits (read s) (fine .sound .state) (fine .most) a b ascends inside);

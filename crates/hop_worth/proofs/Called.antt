@@ -1,6 +1,6 @@
 -- The call where it goes on: what is then known of the three buffers, that the copy is made, and that the lines written are its result; and where it is refused. Assumes nothing.
-use mathlib.Core.Path.{_≡_, sym, ap, ap₂, _∙_}
-use mathlib.Core.List.{List, [], _∷_, _++_}
+use mathlib.Core.Path.{_≡_, sym, ap, _∙_}
+use mathlib.Core.List.{List}
 use Prim.Native.Nat.{ℕ, _+_, _≤_}
 use native.Mathlib.Omega.{arith}
 use lib.IntN.{ℤ}
@@ -11,7 +11,7 @@ use Rattle.hop_rule.specs.Rule.{total}
 use Rattle.hop_rule.specs.Stored.{size, nodes, read}
 use Rattle.hop_rule.specs.Records.{written}
 use Rattle.hop_rule.specs.Calls.{judge, notAtRest, short}
-use Rattle.hop_rule.specs.Worth.{lines, numbers, worthRefusals, Valued, worthDone, worth}
+use Rattle.hop_rule.specs.Worth.{lines, numbers, worthRefusals, worthDone, worth}
 use Rattle.hop_laws.specs.Fine.{Fine}
 use Rattle.hop_laws.proofs.Calls.{judge-none, state-fine}
 use Rattle.hop_laws.proofs.Worth.{worth-done, worth-refused}
@@ -22,7 +22,7 @@ use Rattle.hop_judge.proofs.Judging.{gone, stopped}
 use Rattle.hop_ask.specs.declared.Answer.the-variants as answer
 use Rattle.hop_trial.specs.Trial.{Copied}
 use Rattle.hop_worth.specs.Answers.{valued}
-use Rattle.hop_worth.proofs.Lists.{sets-written}
+use Rattle.hop_laws.proofs.Lists.{sets-written}
 
 -- Where no refusal applies.
 pub record Known (s trial : List ℕ) (list : List ℤ) : Type 0 where

@@ -1,5 +1,5 @@
 -- The list as it fills: a line more behind those of its node, a node more behind those before it; and what a line's numbers are known to be. Assumes nothing.
-use mathlib.Core.Path.{_≡_, refl, sym, ap, subst, _∙_}
+use mathlib.Core.Path.{_≡_, sym, ap, subst, _∙_}
 use mathlib.Core.List.{List, [], _∷_, _++_}
 use Prim.Native.Nat.{ℕ, suc, _+_, _*_, _-_, _≤_, _<_}
 use native.Mathlib.Nat.{mul-le-mul}
@@ -10,7 +10,7 @@ use lib.ListN.{length, length-append, drop-of-length-le}
 use lib.Seq.{sets}
 use Rattle.hop_rule.specs.State.{State}
 use Rattle.hop_rule.specs.Stored.{readAs, read}
-use Rattle.hop_rule.specs.Worth.{Line, line, lines, numbers}
+use Rattle.hop_rule.specs.Worth.{line, lines, numbers}
 use Rattle.hop_laws.specs.Lines.{linesOf, linesBelow}
 use Rattle.hop_laws.proofs.Words.{joined-begins}
 use Rattle.hop_laws.proofs.Worth.{numbers-append, length-numbers, lines-are, node-above, length-node, nodes-more, length-nodes-more, lines-count}
@@ -18,7 +18,7 @@ use Rattle.hop_rest.proofs.Worth.{line-fits}
 use Rattle.hop_trial.specs.declared.Found.{Found}
 use Rattle.hop_trial.specs.Trial.{Copied, found}
 use Rattle.hop_worth.specs.Writing.{Small, sevenOf}
-use Rattle.hop_worth.proofs.Lists.{sets-append}
+use Rattle.hop_laws.proofs.Lists.{sets-append}
 
 module _ (t : State) where
   -- ---- the lines of one node

@@ -1,4 +1,3 @@
-pub mod Lists
 pub mod Filling
 pub mod Called
 pub mod Answers

@@ -6,7 +6,7 @@ use lib.IntN.{pos}
 use lib.ListN.{set}
 use borrow.Author.Needs.{needs}
 use Rattle.hop_changes.proofs.Sums.{signed-kept}
-use Rattle.hop_worth.proofs.Lists.{sets-more}
+use Rattle.hop_laws.proofs.Lists.{sets-more}
 use Rattle.hop_worth.proofs.put_line.Statement.{statement}
 use Rattle.hop_worth.proofs.put_line.Tie as tie
 
