@@ -14,6 +14,7 @@ use Rattle.hop_records.proofs.Answers.{wrote-fixed}
 use Rattle.hop_core.proofs.Answers.{told-fixed, told-fixed-answer, passed-fixed, ran-fixed}
 use Rattle.hop_ask.proofs.Answers.{asked-fixed, asked-fixed-answer}
 use Rattle.hop_worth.proofs.Answers.{worth-fixed, never-refused-with-0}
+use Rattle.hop_why.proofs.Answers.{why-fixed, why-not-refused-with-0}
 use Rattle.hop_c.specs.Determined.{Determined, DeterminedForC, NoneRefusedWith0}
 
 -- A contract that says what the answer is, and one that says so of the answer and of what is left.
@@ -38,6 +39,7 @@ determined = record {
   total-queued = λ s. asked-fixed-answer _ _ _;
   status = λ s out u. asked-fixed _ _;
   worth = worth-fixed;
+  why = λ s list u v. why-fixed u v s list;
   write-event = λ out e. wrote-fixed _;
   write-kind = λ out kind first second. wrote-fixed _;
   numbers-of = λ e. is-fixed _;
@@ -60,6 +62,7 @@ determined-for-c = record {
   hop-total-queued = λ s. is-fixed _;
   hop-status = λ s out u. both-fixed _ _;
   hop-worth = λ s trial list a b l m p q. (p .0 ∙ sym (q .0), ap₂ (λ x y. (x, y)) (p .1 ∙ sym (q .1)) (p .2 ∙ sym (q .2)));
+  hop-why = λ s list u v. both-fixed _ _;
   hop-write-event = λ out kind first second. both-fixed _ _;
   hop-read-event = λ s p. both-fixed _ _;
 }
@@ -81,5 +84,6 @@ none-refused-with-0 = record {
   total-queued = λ s. has-answer call.totalQueued s [] (omega arith) refl refl;
   status = λ s out left u. has-answer (call.status u) s out (omega arith) refl refl;
   worth = never-refused-with-0;
+  why = λ s list l u v. why-not-refused-with-0 u v s list l;
   write-event = λ out left e. has-answer (call.writeEvent e) [] out (omega arith) refl refl;
 }

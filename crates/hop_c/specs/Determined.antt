@@ -1,7 +1,6 @@
 -- 01, 'What the contracts have to settle', for every public call: two answers, and two sets of bytes left in the buffers that it may write to, that its contract allows at the same entry are equal.
 -- One line for each call; what stands behind `Fixed` is the contract that the call's source cites, at its arguments. A buffer that is lent to be read only has one set of bytes. Proved in proofs/Determined.
 use mathlib.Core.Path.{_≡_}
-use mathlib.Core.Logic.{_≢_}
 use mathlib.Core.List.{List, []}
 use Prim.Native.Nat.{ℕ}
 use lib.IntN.{ℤ}
@@ -12,6 +11,7 @@ use Rattle.hop_rule.specs.Calls as call
 use Rattle.hop_rule.specs.Calls.{outcome}
 use Rattle.hop_rule.specs.Fixed.{Fixed, FixedAnswer}
 use Rattle.hop_rule.specs.Worth.{worth}
+use Rattle.hop_rule.specs.Why.{why}
 use Rattle.hop_records.specs.declared.Numbers.{Numbers}
 use Rattle.hop_records.specs.declared.Written.the-variants as answer-of-writing
 use Rattle.hop_records.specs.Writing.{Writes, numbersOf, wroteEvent}
@@ -24,6 +24,8 @@ use Rattle.hop_ask.specs.declared.Answer.{Answer}
 use Rattle.hop_ask.specs.declared.Answer.the-variants.{Refused}
 use Rattle.hop_ask.specs.Answers.{Asked, Wrote}
 use Rattle.hop_worth.specs.Answers.{Worth}
+use Rattle.hop_why.specs.declared.WhyAnswer.the-variants as answer-of-why
+use Rattle.hop_why.specs.Answers.{Why}
 use Rattle.hop_c.specs.declared.HopAnswer.{HopAnswer}
 use Rattle.hop_c.specs.Edge as edge
 use Rattle.hop_c.specs.Edge.{sizeOf, answer}
@@ -44,6 +46,8 @@ pub record Determined : Type 1 where
   pub status : (s out : List ℕ) (u : ℕ) → Fixed (Wrote (call.status u) s out)
   -- of R-1's call, the trial buffer and the list are what is left
   pub worth : (s trial : List ℕ) (list : List ℤ) → Fixed (λ (a : Answer) (left : List ℕ × List ℤ). Worth s trial list a (left .0) (left .1))
+  -- of R-3's, the list
+  pub why : (s list : List ℕ) (u v : ℕ) → Fixed (Why u v s list)
   pub write-event : (out : List ℕ) (e : Event) → Fixed (Writes (outcome (call.writeEvent e) [] out))
   pub write-kind : (out : List ℕ) (kind first second : ℕ) → Fixed (Writes (wroteEvent kind first second out))
   pub numbers-of : (e : Event) → FixedAnswer (λ (p : Numbers). p ≡ numbersOf e)
@@ -64,6 +68,7 @@ pub record DeterminedForC : Type 0 where
   pub hop-total-queued : (s : List ℕ) → FixedAnswer (λ (a : HopAnswer). a ≡ answer (outcome call.totalQueued s []))
   pub hop-status : (s out : List ℕ) (u : ℕ) → Fixed (edge.Wrote (outcome (call.status u) s out))
   pub hop-worth : (s trial : List ℕ) (list : List ℤ) → Fixed (λ (a : HopAnswer) (left : List ℕ × List ℤ). edge.Worth (worth s trial list) a (left .0) (left .1))
+  pub hop-why : (s list : List ℕ) (u v : ℕ) → Fixed (edge.Why (why u v s list))
   pub hop-write-event : (out : List ℕ) (kind first second : ℕ) → Fixed (edge.Wrote (wroteEvent kind first second out))
   pub hop-read-event : (s : List ℕ) (p : ℕ) → Fixed (edge.Read s p)
 
@@ -77,4 +82,5 @@ pub record NoneRefusedWith0 : Type 0 where
   pub total-queued : (s : List ℕ) → Asked call.totalQueued s (Refused 0) → ⊥
   pub status : (s out left : List ℕ) (u : ℕ) → Wrote (call.status u) s out (Refused 0) left → ⊥
   pub worth : (s trial x : List ℕ) (list l : List ℤ) → Worth s trial list (Refused 0) x l → ⊥
+  pub why : (s list l : List ℕ) (u v : ℕ) → Why u v s list (answer-of-why.Refused 0) l → ⊥
   pub write-event : (out left : List ℕ) (e : Event) → Writes (outcome (call.writeEvent e) [] out) (answer-of-writing.Refused 0) left → ⊥

@@ -1,4 +1,4 @@
--- What C callers get of a call's outcome: its number and its answers in a struct, a place for each. Answered, Ran, Wrote, Worth and Read are the contracts; the calls that answer a number alone have hop_core's Told.
+-- What C callers get of a call's outcome: its number and its answers in a struct, a place for each. Answered, Ran, Wrote, Worth, Why and Read are the contracts; the calls that answer a number alone have hop_core's Told.
 use mathlib.Core.Path.{_≡_}
 use mathlib.Core.List.{List}
 use Prim.Native.Nat.{ℕ}
@@ -10,9 +10,11 @@ use Rattle.hop_rule.specs.Stored.{size}
 use Rattle.hop_rule.specs.Records.{numberOf, answersOf, readEvent, placeAfter}
 use Rattle.hop_rule.specs.Calls.{Outcome, badCount, answerAt}
 use Rattle.hop_rule.specs.Worth.{Valued}
+use Rattle.hop_rule.specs.Why.{Explained}
 use Rattle.hop_c.specs.declared.HopAnswer.{HopAnswer}
 use Rattle.hop_c.specs.declared.HopRan.{HopRan}
 use Rattle.hop_c.specs.declared.HopEvent.{HopEvent}
+use Rattle.hop_c.specs.declared.HopReason.{HopReason}
 
 -- The bytes of a state of n nodes, 0 unless n is 1 to 40.
 unfoldable pub sizeOf : ℕ → ℕ
@@ -41,6 +43,13 @@ worthAnswer v = record { code = v .number; value = getD (v .answers) 0 0 }
 
 abbrev pub Worth : Valued → HopAnswer → List ℕ → List ℤ → Type 0
 Worth v a trial list = (a ≡ worthAnswer v) × (trial ≡ v .trial) × (list ≡ v .list)
+
+-- And for that of R-3's: the struct and the list.
+abbrev pub whyReason : Explained → HopReason
+whyReason e = record { code = e .number; kind = getD (e .answers) 0 0; count = getD (e .answers) 1 0 }
+
+abbrev pub Why : Explained → HopReason → List ℕ → Type 0
+Why e a list = (a ≡ whyReason e) × (list ≡ e .list)
 
 -- What was read, as a C caller gets it: the number, the kind and its two numbers; what there is not is 0, so kind 0 is the plain end or a refusal.
 abbrev pub event : ℕ → List ℕ → HopEvent

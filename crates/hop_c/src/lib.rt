@@ -11,17 +11,20 @@ use hop_records::numbers_of;
 use hop_records::write_kind;
 use hop_rule::Event;
 use hop_rule::Reading;
+use hop_why::WhyAnswer;
 ghost use mathlib.Core.Path.{_≡_};
 ghost use mathlib.Core.List.{[], _∷_};
 ghost use Rattle.hop_rule.specs.Calls as call;
 ghost use Rattle.hop_rule.specs.Calls.{outcome};
 ghost use Rattle.hop_rule.specs.Records.{kindOf, bodyOf};
 ghost use Rattle.hop_rule.specs.Worth as worth;
+ghost use Rattle.hop_rule.specs.Why as why;
 ghost use Rattle.hop_core.specs.Answers as core;
 ghost use Rattle.hop_core.specs.Answers.{Told, passed};
 ghost use Rattle.hop_ask.specs.Answers.{asked};
+ghost use Rattle.hop_why.specs.Answers.{explained};
 ghost use Rattle.hop_records.specs.Writing.{wrote, wroteEvent};
-ghost use Rattle.hop_c.specs.Edge.{sizeOf, answer, ran, Answered, Ran, Wrote, Worth, event, reading, Read};
+ghost use Rattle.hop_c.specs.Edge.{sizeOf, answer, ran, Answered, Ran, Wrote, Worth, whyReason, Why, event, reading, Read};
 
 // A number, and one answer.
 #[repr(C)]
@@ -45,6 +48,14 @@ pub struct HopEvent {
     pub kind: u32,
     pub first: u32,
     pub second: u32,
+}
+
+// Why a node reaches a destination in so many hops, or not at all; kind 1 a path, 2 a set, 0 at a refusal.
+#[repr(C)]
+pub struct HopReason {
+    pub code: u32,
+    pub kind: u32,
+    pub count: u32,
 }
 
 // Each of the core's answers as the struct that says the same; no byte has a part in it.
@@ -79,6 +90,28 @@ fn plain_run(a: RunAnswer) -> HopRan
             code: c,
             passes: 0,
             deliveries: 0,
+        },
+    }
+}
+
+fn plain_why(a: WhyAnswer) -> HopReason
+    ensures { λ r. ⌜ r ≡ whyReason (explained a []) ⌝ }
+{
+    match a {
+        WhyAnswer::Path(k) => HopReason {
+            code: 0,
+            kind: 1,
+            count: k,
+        },
+        WhyAnswer::Set(k) => HopReason {
+            code: 0,
+            kind: 2,
+            count: k,
+        },
+        WhyAnswer::Refused(c) => HopReason {
+            code: c,
+            kind: 0,
+            count: 0,
         },
     }
 }
@@ -223,6 +256,19 @@ pub extern "C" fn hop_worth(state: &[u8], trial: &mut [u8], lines: &mut [i32]) -
     ensures { λ r. ⌜ Worth (worth.worth (now (state .entry)) (now (trial .entry)) (now (lines .entry))) r (now (trial .exit)) (now (lines .exit)) ⌝ }
 {
     plain_answer(hop_worth::worth(state, trial, lines))
+}
+
+// Why a node reaches a destination in so many hops, or not at all.
+#[no_mangle]
+pub extern "C" fn hop_why(
+    state: &[u8],
+    node: usize,
+    destination: usize,
+    list: &mut [u8],
+) -> HopReason
+    ensures { λ r. ⌜ Why (why.why node destination (now (state .entry)) (now (list .entry))) r (now (list .exit)) ⌝ }
+{
+    plain_why(hop_why::why(state, node, destination, list))
 }
 
 // The records.

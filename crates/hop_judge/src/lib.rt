@@ -8,11 +8,16 @@ use hop_rule::Table;
 use hop_sound::is_sound;
 ghost use mathlib.Core.Path.{_≡_};
 ghost use mathlib.Core.List.{[], _∷_};
-ghost use Prim.Native.Nat.{_+_, _*_, _-_, _≤_, _<_};
+ghost use mathlib.Core.Bool.{not};
+ghost use Prim.Native.Nat.{_*_, _-_, _≤_, _<_};
+ghost use lib.Dec.{eqb};
 ghost use Rattle.hop_rule.specs.Words.{if_then_else_};
 ghost use Rattle.hop_rule.specs.Stored as stored;
 ghost use Rattle.hop_rule.specs.Calls.{judge, refusals, onState, noNode, oneNode, notAtRest, short, make, up, down, deliver, status};
 ghost use Rattle.hop_rule.specs.Worth.{worthRefusals};
+ghost use Rattle.hop_rule.specs.Why.{beforeList};
+ghost use Rattle.hop_cells.specs.Cells.{Room};
+ghost use Rattle.hop_counts.specs.Counts as count;
 ghost use Rattle.hop_judge.specs.Verdict.{verdict};
 
 // A call goes on with a state of so many nodes, or is refused with a number.
@@ -128,12 +133,20 @@ pub fn judge_status(s: &[u8], u: usize, out: &[u8]) -> Judged
     }
 }
 
+// Go on with n nodes, unless the state is not at rest 12.
+fn unless_waiting(s: &[u8], n: usize) -> Judged
+    requires { ⌜ Room n (now s) ⌝ }
+    ensures { λ r. ⌜ r ≡ verdict (if not (eqb (count.queued n (now (s .entry))) 0) then 12 else 0) n ⌝ }
+{
+    unless(queued(s, n) != 0, 12, n)
+}
+
 // A state that is not at rest 12,
 fn judge_rest(s: &[u8]) -> Judged
     ensures { λ r. ⌜ r ≡ verdict (judge (onState (now (s .entry)) (notAtRest (now (s .entry)) ∷ []))) (stored.nodes (now (s .entry))) ⌝ }
 {
     match judge_state(s) {
-        Judged::Go(n) => unless(queued(s, n) != 0, 12, n),
+        Judged::Go(n) => unless_waiting(s, n),
         refused => refused,
     }
 }
@@ -162,6 +175,16 @@ pub fn judge_worth(s: &[u8], trial: &[u8], list: &[i32]) -> Judged
 {
     match judge_trial(s, trial) {
         Judged::Go(n) => unless(list.len() < 7 * pairs(n), 2, n),
+        refused => refused,
+    }
+}
+
+// A reason: two node numbers 4, and a state that is not at rest 12. A list that cannot hold the reason is judged where its length is known.
+pub fn judge_why(s: &[u8], u: usize, v: usize) -> Judged
+    ensures { λ r. ⌜ r ≡ verdict (judge (beforeList u v (now (s .entry)))) (stored.nodes (now (s .entry))) ⌝ }
+{
+    match judge_pair(s, u, v) {
+        Judged::Go(n) => unless_waiting(s, n),
         refused => refused,
     }
 }

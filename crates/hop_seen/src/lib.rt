@@ -8,7 +8,7 @@ ghost use Rattle.hop_rows.specs.Rows.{allBelow};
 ghost use Rattle.hop_seen.specs.Seen as seen;
 
 // Is v in the set?
-fn has(set: u64, v: u8) -> bool
+pub fn has(set: u64, v: u8) -> bool
     requires { ⌜ v < 64 ⌝ }
     ensures { λ r. ⌜ r ≡ seen.has set v ⌝ }
 {
@@ -16,7 +16,7 @@ fn has(set: u64, v: u8) -> bool
 }
 
 // The set with v added.
-fn added(set: u64, v: u8) -> u64
+pub fn added(set: u64, v: u8) -> u64
     requires { ⌜ v < 64 ⌝ }
     ensures { λ r. ⌜ r ≡ seen.added set v ⌝ }
 {

@@ -1,5 +1,5 @@
 -- `judge_rest` meets its contract: where the state passes, an entry that waits anywhere is refused. Assumes nothing.
-use mathlib.Core.Path.{ap, _∙_}
+use mathlib.Core.Path.{ap}
 use mathlib.Core.List.{[]}
 use mathlib.Core.Bool.{not}
 use native.Mathlib.Omega.{arith}
@@ -17,19 +17,16 @@ judge-state-requires c κs = search needs
 enum-known-n : tie.Need-enum-known-n
 enum-known-n c = search needs
 
-queued-requires : tie.Need-queued-requires
-queued-requires c κs = room-known _ [] (c .before .before .before .judge-state .ensures) (c .before .n .given .1)
-
-unless-requires : tie.Need-unless-requires
-unless-requires c κs = search needs
+unless-waiting-requires : tie.Need-unless-waiting-requires
+unless-waiting-requires c κs = room-known _ [] (c .before .before .before .judge-state .ensures) (c .before .n .given .1)
 
 enum-told : tie.Need-enum-told
 enum-told c = search needs
 
 returns : tie.Need-returns
 returns c =
-    let at-n = c .before .before .before in
-    judged-next _ _ (at-n .before .before .judge-state .ensures) _ (omega arith) (at-n .n .given .1) (λ claim. ap (λ x. not (eqb x 0)) (c .before .queued .ensures .0 ∙ queued-read _ claim)) (c .unless .ensures)
+    let at-n = c .before .before in
+    judged-next _ _ (at-n .before .before .judge-state .ensures) _ (omega arith) (at-n .n .given .1) (λ claim. ap (λ x. not (eqb x 0)) (queued-read _ claim)) (c .unless-waiting .ensures)
 
 returns-2 : tie.Need-returns-2
 returns-2 c = refused-already _ _ (c .before .before .judge-state .ensures) _ (c .enum-told .given .1)
@@ -40,8 +37,7 @@ judge-rest-spec =
     (tie.spec
     judge-state-requires
     enum-known-n
-    queued-requires
-    unless-requires
+    unless-waiting-requires
     enum-told
     returns
     returns-2)

@@ -1,0 +1,4 @@
+pub mod Paths
+pub mod Sets
+pub mod Called
+pub mod Answers
