@@ -1,9 +1,23 @@
 //! Finds the archive and has it linked; without one everything but the core is built. Uses std only.
 //! The archive is HOP_ARCHIVE, or target/staticlib/libhop_c.a of the repository; 'none' asks for no archive. HOP_BEFORE
-//! names another one beside it, whose calls have 'before_' in front of their names.
+//! names another one beside it, whose calls have 'before_' in front of their names and which may be older than some.
 
 use std::env;
 use std::path::{Path, PathBuf};
+
+/// The calls that came with a request.
+const LATER: [&str; 2] = ["worth", "why"];
+
+/// Says to the sources which of these an older archive has: their names stand in it, each with a zero behind.
+fn tell_later(archive: &Path) {
+    let bytes = std::fs::read(archive).unwrap_or_default();
+    for call in LATER {
+        let name = format!("before_hop_{call}\0");
+        if bytes.windows(name.len()).any(|at| at == name.as_bytes()) {
+            println!("cargo:rustc-cfg=before_{call}");
+        }
+    }
+}
 
 /// Has an archive linked where there is one, and says so to the sources.
 fn link(archive: &Path, found: &str) {
@@ -20,7 +34,7 @@ fn link(archive: &Path, found: &str) {
 }
 
 fn main() {
-    println!("cargo:rustc-check-cfg=cfg(archive, before)");
+    println!("cargo:rustc-check-cfg=cfg(archive, before, before_worth, before_why)");
     println!("cargo:rerun-if-env-changed=HOP_ARCHIVE");
     println!("cargo:rerun-if-env-changed=HOP_BEFORE");
     let root = Path::new(&env::var("CARGO_MANIFEST_DIR").expect("cargo sets it")).join("..");
@@ -32,6 +46,8 @@ fn main() {
     };
     link(&archive, "archive");
     if let Some(given) = env::var_os("HOP_BEFORE") {
-        link(&root.join(given), "before");
+        let before = root.join(given);
+        link(&before, "before");
+        tell_later(&before);
     }
 }

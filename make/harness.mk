@@ -3,7 +3,7 @@
 # emulated (make/emulated.mk), and what times them or looks into them is not done.
 # The main Makefile includes it; alone it is `make -f make/harness.mk TARGET` in the root of the repository.
 .PHONY: compare program-test selftest must-notice valgrind asan bench bench-test before example example-ring \
-	example-worth header header-c header-cxx rust-test native always
+	example-worth example-why header header-c header-cxx rust-test native always
 
 # The archive under test, and the program. Either can be another one, which is then taken as it is.
 NATIVE := $(filter x86_64,$(shell uname -m))
@@ -52,9 +52,10 @@ selftest:
 	@$(UNLINKED) cargo build --quiet --release -p hop_harness
 	@build/unlinked/release/compare --selftest
 
-# The comparison itself: it must notice each of many wrong cores. Needs no archive; takes some minutes.
+# The comparison itself: it must notice each of many wrong cores. Needs no archive; takes some minutes. NOTICE: what the
+# names begin with (worth, why-path, ..), for these alone.
 must-notice:
-	@harness/must-notice/run
+	@harness/must-notice/run $(NOTICE)
 
 # The safe Rust crate: its tests and the examples of its documentation. The last line is 'N passed, M failed'.
 rust-test: $(HOP_ARCHIVE)
@@ -70,9 +71,9 @@ header-cxx:
 	@printf '#include "hop.h"\n' | $(CXX) -std=c++11 -Wall -Wextra -Wpedantic -Werror -Iinclude -x c++ -fsyntax-only -
 
 # The C examples: what each prints is shown, and held to the text beside it.
-example: example-ring example-worth
+example: example-ring example-worth example-why
 
-example-ring example-worth: example-%: $(HOP_ARCHIVE) | $(HARNESS_OUT)
+example-ring example-worth example-why: example-%: $(HOP_ARCHIVE) | $(HARNESS_OUT)
 	@$(CC) $(C_FLAGS) -O2 examples/$*.c $(HOP_ARCHIVE) -o $(HARNESS_OUT)/$*
 	@$(HARNESS_OUT)/$* > $(HARNESS_OUT)/$*.stdout; status=$$?; cat $(HARNESS_OUT)/$*.stdout; exit $$status
 	@diff examples/$*.stdout $(HARNESS_OUT)/$*.stdout
@@ -80,7 +81,7 @@ example-ring example-worth: example-%: $(HOP_ARCHIVE) | $(HARNESS_OUT)
 # What the sanitizers run: the comparison with few cases of each group, without those that are all-or-nothing and long.
 # Its fences have closed pages on both sides with or without them.
 FEW := --cases 5 --skip three-nodes --skip every-node-count --skip every-byte --skip numbers --skip queue-places \
-	--skip worth-node-counts
+	--skip worth-node-counts --skip why-node-counts
 
 # Reads of what nobody wrote and accesses outside of a buffer, in the archive's own code: exact buffers from C, then
 # the comparison.
@@ -110,7 +111,7 @@ bench-test:
 # Ratios of the core's time to a careful safe Rust implementation's, every byte equal first. BENCH: a word of the rows'
 # names (check, pass, records, ..) for these alone, or --itself for the safe implementation against itself.
 # BEFORE: an older archive, which then stands where the safe implementation does, for --itself too; built in a folder
-# of its own.
+# of its own. Calls that it does not have yet are not timed.
 BEFORE_LINKED = HOP_ARCHIVE=$(HARNESS_OUT)/libhop_now.a HOP_BEFORE=$(HARNESS_OUT)/libhop_before.a \
 	CARGO_TARGET_DIR=build/before
 bench: native $(HOP_ARCHIVE) $(if $(BEFORE),before)

@@ -2,9 +2,9 @@
 //! Times are of one machine and one day; ratios in one process are what can be compared.
 
 use hop_bench::measure::{self, Best};
-use hop_bench::rows::{NODE_COUNTS, checks, rows};
+use hop_bench::rows::{NODE_COUNTS, Row, checks, rows};
 use hop_bench::safe::Safe;
-use hop_harness::core::{before, core};
+use hop_harness::core::{before, before_lacks, core};
 use hop_harness::engine::Engine;
 use std::hint::black_box;
 use std::process::ExitCode;
@@ -23,11 +23,17 @@ fn node_counts() -> Vec<String> {
     NODE_COUNTS.iter().map(|n| format!("n = {n}")).collect()
 }
 
-/// The best times of each row whose name has a word, for each node count.
-fn times(core: &dyn Engine, beside: &dyn Engine, word: &str) -> Result<Vec<(&'static str, Vec<Best>)>, String> {
+/// The best times of each row whose name has a word and whose call both have, for each node count.
+fn times(
+    core: &dyn Engine,
+    beside: &dyn Engine,
+    lacks: &[&str],
+    word: &str,
+) -> Result<Vec<(&'static str, Vec<Best>)>, String> {
     let by_count: Vec<_> = NODE_COUNTS.iter().map(|&n| rows(n)).collect();
     let mut times = Vec::new();
-    for (at, first) in by_count[0].iter().enumerate().filter(|(_, row)| row.name.contains(word)) {
+    let timed = |row: &Row| row.name.contains(word) && !lacks.iter().any(|call| row.name.starts_with(call));
+    for (at, first) in by_count[0].iter().enumerate().filter(|(_, row)| timed(row)) {
         let bests: Result<Vec<Best>, String> =
             by_count.iter().map(|rows| measure::row(core, beside, &rows[at])).collect();
         times.push((first.name, bests?));
@@ -35,8 +41,8 @@ fn times(core: &dyn Engine, beside: &dyn Engine, word: &str) -> Result<Vec<(&'st
     Ok(times)
 }
 
-fn bench(core: &dyn Engine, beside: &dyn Engine, called: &str, word: &str) -> Result<(), String> {
-    let times = times(core, beside, word)?;
+fn bench(core: &dyn Engine, beside: &dyn Engine, called: &str, lacks: &[&str], word: &str) -> Result<(), String> {
+    let times = times(core, beside, lacks, word)?;
     heading(&format!("core / {called}, below 1 is faster"), &node_counts());
     for (name, bests) in &times {
         line(name, &bests.iter().map(Best::ratio).collect::<Vec<_>>());
@@ -75,8 +81,13 @@ fn main() -> ExitCode {
         return ExitCode::from(2);
     };
     println!("One process, turn and turn about, best of many; every answer and byte was equal first.");
+    // An older core may lack calls; the safe implementation has all.
+    let lacks = if before().is_some() { before_lacks() } else { Vec::new() };
+    for call in &lacks {
+        println!("The older core has no {call}, which is not timed.");
+    }
     // Neither may be seen through: a call is a call for both.
-    match bench(black_box(core), black_box(beside), called, word) {
+    match bench(black_box(core), black_box(beside), called, &lacks, word) {
         Ok(()) => ExitCode::SUCCESS,
         Err(what) => {
             eprintln!("{what}");

@@ -74,6 +74,11 @@ fn four_links(n: usize) -> Vec<u8> {
     with_links(n, (0..n).flat_map(|a| [(a, (a + 1) % n), (a, (a + 2) % n)]))
 }
 
+/// All links but those of the last node.
+fn one_apart(n: usize) -> Vec<u8> {
+    with_links(n, (0..n - 1).flat_map(|a| (a + 1..n - 1).map(move |b| (a, b))))
+}
+
 fn at_rest(mut state: Vec<u8>) -> Vec<u8> {
     assert_eq!(Safe.run(&mut state, 255).code, 0);
     state
@@ -128,6 +133,9 @@ pub fn rows(n: usize) -> Vec<Row> {
         row("worth, a ring", at_rest(ring(n)), Call::worth(n, 0)),
         row("worth, four links a node", at_rest(four_links(n)), Call::worth(n, 0)),
         row("worth, all links", at_rest(complete(n)), Call::worth(n, 0)),
+        row("why, a path of all nodes", at_rest(line(n)), Call::why(0, last)),
+        row("why, one hop", at_rest(complete(n)), Call::why(0, last)),
+        row("why, all nodes but one", at_rest(one_apart(n)), Call::why(0, last)),
     ]);
     rows
 }

@@ -58,6 +58,7 @@ static void nothing(void)
     MUST(hop_total_queued(NULL, 0).code == 2);
     MUST(hop_status(NULL, 0, 0, NULL, 0).code == 2);
     MUST(hop_worth(NULL, 0, NULL, 0, NULL, 0).code == 2);
+    MUST(hop_why(NULL, 0, 0, 0, NULL, 0).code == 2);
     MUST(hop_write_event(19, 0, 0, NULL, 0).code == 2);
     MUST(hop_write_event(20, 0, 0, NULL, 0).code == 10);
     event = hop_read_event(NULL, 0, &place);
@@ -80,9 +81,11 @@ static void short_buffers(size_t n)
         MUST(hop_up(state, length, 0, 1) == 2);
         MUST(hop_pass(state, length).code == 2);
         MUST(hop_worth(state, length, NULL, 0, NULL, 0).code == 2);
+        MUST(hop_why(state, length, 0, 0, NULL, 0).code == 2);
         state[0] = 41;
         MUST(hop_check(state, length) == 1);
         MUST(hop_worth(state, length, NULL, 0, NULL, 0).code == 1);
+        MUST(hop_why(state, length, 0, 0, NULL, 0).code == 1);
         free(state);
     }
 }
@@ -144,6 +147,66 @@ static void worths(const uint8_t *state, size_t length, size_t n)
         MUST(worth(state, length, n, size + n, 7 * pairs + n).value == pairs);
 }
 
+/* A path: its ends, and an up link at each step; with as many hops as are known. */
+static int is_path(const uint8_t *state, size_t n, size_t node, size_t destination, const uint8_t *list, size_t count)
+{
+    for (size_t k = 0; k + 1 < count; k++) {
+        if (list[k] >= n || list[k + 1] >= n || state[1 + list[k] * n + list[k + 1]] != 1)
+            return 0;
+    }
+    size_t hops = hop_distance(state, hop_size(n), node, destination).value;
+    return count == hops + 1 && list[0] == node && list[count - 1] == destination;
+}
+
+/* A set: ascending, the node in it and the destination not, and no up link from inside to outside. */
+static int is_set(const uint8_t *state, size_t n, size_t node, size_t destination, const uint8_t *list, size_t count)
+{
+    uint8_t inside[40] = {0};
+    for (size_t k = 0; k < count; k++) {
+        if (list[k] >= n || (k > 0 && list[k - 1] >= list[k]))
+            return 0;
+        inside[list[k]] = 1;
+    }
+    for (size_t a = 0; a < n; a++) {
+        for (size_t b = 0; b < n; b++) {
+            if (inside[a] && !inside[b] && state[1 + a * n + b] != 0)
+                return 0;
+        }
+    }
+    return inside[node] && !inside[destination];
+}
+
+/* The reason of a pair, in a list of so many bytes that nobody has written. */
+static hop_reason why(const uint8_t *state, size_t length, size_t node, size_t destination, size_t list_len)
+{
+    uint8_t *list = room(list_len);
+    hop_reason reason = hop_why(state, length, node, destination, list, list_len);
+    if (reason.code != 0)
+        MUST(reason.kind == 0 && reason.count == 0);
+    else if (reason.kind == 1)
+        MUST(is_path(state, state[0], node, destination, list, reason.count));
+    else
+        MUST(reason.kind == 2 && is_set(state, state[0], node, destination, list, reason.count));
+    free(list);
+    return reason;
+}
+
+/* The reasons of some pairs of a site at rest: in lists that would do for any, in exact ones, and in short ones. */
+static void whys(const uint8_t *state, size_t length, size_t n)
+{
+    for (int k = 0; k < 8; k++) {
+        size_t u = below(n), v = k == 0 ? u : below(n);
+        hop_reason reason = why(state, length, u, v, n);
+        MUST(reason.code == 0 && 1 <= reason.count && reason.count <= n);
+        MUST(why(state, length, u, v, reason.count).count == reason.count);
+        MUST(why(state, length, u, v, reason.count + n).kind == reason.kind);
+        MUST(why(state, length, u, v, reason.count - 1).code == 2);
+        MUST(why(state, length, u, v, 0).code == 2);
+        MUST(why(state, length, n, v, 0).code == 4 && why(state, length, u, (size_t)-1, n).code == 4);
+    }
+    MUST(hop_why(state, length, 0, 0, NULL, 0).code == 2);
+}
+
 /* Random events in a buffer with bytes behind the state that nobody has written. */
 static void events(size_t n, size_t behind, int steps)
 {
@@ -178,7 +241,7 @@ static void events(size_t n, size_t behind, int steps)
         questions(state, length, n);
     }
     if (hop_total_queued(state, length).value > 0)
-        MUST(worth(state, length, n, hop_size(n), 7 * n * n).code == 12);
+        MUST(worth(state, length, n, hop_size(n), 7 * n * n).code == 12 && why(state, length, 0, n - 1, n).code == 12);
     hop_ran ran = hop_run(state, length, 255);
     MUST(ran.code == 0 && ran.passes <= n);
     MUST(hop_total_queued(state, length).value == 0);
@@ -186,10 +249,12 @@ static void events(size_t n, size_t behind, int steps)
     /* All trials of all large sites would take long; one of them is enough. */
     if (n <= 16 || n == 40)
         worths(state, length, n);
+    whys(state, length, n);
     state[1] = 2;
     MUST(hop_check(state, length) == 3);
     MUST(hop_run(state, length, 255).code == 3);
     MUST(worth(state, length, n, 0, 0).code == 3);
+    MUST(why(state, length, n, n, 0).code == 3);
     free(state);
 }
 

@@ -21,12 +21,18 @@ pub fn before() -> Option<&'static dyn Engine> {
     return None;
 }
 
-/// The core whose calls have this in front of their names.
+/// The calls that the other archive lacks, since it is older than they are. There is no answer to any of them.
+pub fn before_lacks() -> Vec<&'static str> {
+    let has = [("worth", cfg!(before_worth)), ("why", cfg!(before_why))];
+    has.into_iter().filter(|&(_, has)| !has).map(|(call, _)| call).collect()
+}
+
+/// The core whose calls have this in front of their names. Those that came with a request are there under a condition.
 #[cfg(any(archive, before))]
 macro_rules! linked {
-    ($name:ident, $before:literal) => {
+    ($name:ident, $before:literal, worth: $worth:meta, why: $why:meta) => {
         mod $name {
-            use crate::engine::{Answer, Engine, Ran, Read};
+            use crate::engine::{Answer, Engine, Ran, Read, Reason};
 
             unsafe extern "C" {
                 #[link_name = concat!($before, "hop_size")]
@@ -59,6 +65,7 @@ macro_rules! linked {
                 fn hop_write_event(kind: u32, first: u16, second: u16, out: *mut u8, out_len: usize) -> Answer;
                 #[link_name = concat!($before, "hop_read_event")]
                 fn hop_read_event(bytes: *const u8, len: usize, place: *mut usize) -> Read;
+                #[cfg($worth)]
                 #[link_name = concat!($before, "hop_worth")]
                 fn hop_worth(
                     state: *const u8,
@@ -68,6 +75,16 @@ macro_rules! linked {
                     lines: *mut i32,
                     lines_len: usize,
                 ) -> Answer;
+                #[cfg($why)]
+                #[link_name = concat!($before, "hop_why")]
+                fn hop_why(
+                    state: *const u8,
+                    len: usize,
+                    node: usize,
+                    destination: usize,
+                    list: *mut u8,
+                    list_len: usize,
+                ) -> Reason;
             }
 
             pub struct Core;
@@ -134,9 +151,26 @@ macro_rules! linked {
                     unsafe { hop_read_event(bytes.as_ptr(), bytes.len(), place) }
                 }
 
+                #[cfg($worth)]
                 fn worth(&self, state: &[u8], trial: &mut [u8], lines: &mut [i32]) -> Answer {
                     let (trial_at, lines_at) = (trial.as_mut_ptr(), lines.as_mut_ptr());
                     unsafe { hop_worth(state.as_ptr(), state.len(), trial_at, trial.len(), lines_at, lines.len()) }
+                }
+
+                #[cfg(not($worth))]
+                fn worth(&self, _: &[u8], _: &mut [u8], _: &mut [i32]) -> Answer {
+                    panic!("an archive that has no hop_worth was asked for it")
+                }
+
+                #[cfg($why)]
+                fn why(&self, state: &[u8], node: usize, destination: usize, list: &mut [u8]) -> Reason {
+                    let (list_at, room) = (list.as_mut_ptr(), list.len());
+                    unsafe { hop_why(state.as_ptr(), state.len(), node, destination, list_at, room) }
+                }
+
+                #[cfg(not($why))]
+                fn why(&self, _: &[u8], _: usize, _: usize, _: &mut [u8]) -> Reason {
+                    panic!("an archive that has no hop_why was asked for it")
                 }
             }
         }
@@ -144,6 +178,6 @@ macro_rules! linked {
 }
 
 #[cfg(archive)]
-linked!(linked, "");
+linked!(linked, "", worth: all(), why: all());
 #[cfg(before)]
-linked!(renamed, "before_");
+linked!(renamed, "before_", worth: before_worth, why: before_why);

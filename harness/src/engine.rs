@@ -28,6 +28,15 @@ pub struct Read {
     pub second: u32,
 }
 
+/// A reason: kind 1 is a path and 2 a set, and so many bytes of the list are it.
+#[repr(C)]
+#[derive(Clone, Copy, PartialEq, Eq, Debug, Default)]
+pub struct Reason {
+    pub code: u32,
+    pub kind: u32,
+    pub count: u32,
+}
+
 /// A core: the one in the archive, or another that is held against the second implementation.
 pub trait Engine {
     fn size(&self, n: usize) -> usize;
@@ -46,4 +55,5 @@ pub trait Engine {
     fn write_event(&self, kind: u32, first: u16, second: u16, out: &mut [u8]) -> Answer;
     fn read_event(&self, bytes: &[u8], place: &mut usize) -> Read;
     fn worth(&self, state: &[u8], trial: &mut [u8], lines: &mut [i32]) -> Answer;
+    fn why(&self, state: &[u8], node: usize, destination: usize, list: &mut [u8]) -> Reason;
 }

@@ -1,6 +1,6 @@
 //! The documents' own numbers, held against any core. Uses the trait, and the second's reading of stored bytes.
 
-use crate::engine::{Answer, Engine, Ran};
+use crate::engine::{Answer, Engine, Ran, Reason};
 use crate::second::stored::Blocks;
 
 type Held = Result<(), String>;
@@ -27,6 +27,13 @@ pub const NUMBERS: &[(&str, Check)] = &[
     ("R-1 one node", worth_of_one),
     ("R-1 780 links of 40", worth_of_complete),
     ("R-1 refusals and their order", worth_refused),
+    ("R-3 line of 3 with a node apart", why_of_line),
+    ("R-3 the square", why_of_square),
+    ("R-3 a ring of 6", why_of_ring),
+    ("R-3 one node", why_of_one),
+    ("R-3 a line of 40, and of 39", why_of_long_line),
+    ("R-3 780 links of 40", why_of_complete),
+    ("R-3 refusals and their order", why_refused),
 ];
 
 /// Two things that document 01 says are equal.
@@ -255,4 +262,109 @@ fn worth_refused(core: &dyn Engine) -> Held {
     state[0] = 41;
     refused(&state[..40], 0, 0, 1)?;
     refused(&[], 0, 0, 2)
+}
+
+/// A site at rest.
+fn rested(core: &dyn Engine, n: usize, links: &[(usize, usize)]) -> Result<Vec<u8>, String> {
+    let mut state = with_links(core, n, links)?;
+    same("run", core.run(&mut state, 255).code, 0)?;
+    Ok(state)
+}
+
+/// The reason is this one: in a list of exact length, and in one that is a byte longer.
+fn reason(core: &dyn Engine, state: &[u8], pair: (usize, usize), kind: u32, should: &[u8]) -> Held {
+    let what = format!("why {} {}", pair.0, pair.1);
+    for more in [0, 1] {
+        let (before, mut list) = (state.to_vec(), vec![0xee; should.len() + more]);
+        let answer = core.why(state, pair.0, pair.1, &mut list);
+        same(&what, answer, Reason { code: 0, kind, count: should.len() as u32 })?;
+        same(&what, list, [should, &[0xee][..more]].concat())?;
+        same("the state stays", state == before, true)?;
+    }
+    Ok(())
+}
+
+fn path(core: &dyn Engine, state: &[u8], should: &[u8]) -> Held {
+    reason(core, state, (should[0].into(), should[should.len() - 1].into()), 1, should)
+}
+
+fn why_of_line(core: &dyn Engine) -> Held {
+    let state = rested(core, 4, &[(0, 1), (1, 2)])?;
+    path(core, &state, &[0, 1, 2])?;
+    path(core, &state, &[2, 1, 0])?;
+    path(core, &state, &[1, 2])?;
+    path(core, &state, &[3])?;
+    reason(core, &state, (0, 3), 2, &[0, 1, 2])?;
+    reason(core, &state, (2, 3), 2, &[0, 1, 2])?;
+    reason(core, &state, (3, 0), 2, &[3])
+}
+
+/// Of two shortest paths the one along the downstreams, whichever end asks.
+fn why_of_square(core: &dyn Engine) -> Held {
+    let state = rested(core, 4, &[(0, 1), (0, 2), (1, 3), (2, 3)])?;
+    path(core, &state, &[0, 1, 3])?;
+    path(core, &state, &[3, 1, 0])?;
+    path(core, &state, &[1, 0, 2])?;
+    path(core, &state, &[2, 0, 1])
+}
+
+/// There and back need not be the same path.
+fn why_of_ring(core: &dyn Engine) -> Held {
+    let state = rested(core, 6, &[(0, 1), (1, 3), (3, 5), (5, 2), (2, 4), (4, 0)])?;
+    path(core, &state, &[0, 1, 3, 5])?;
+    path(core, &state, &[5, 2, 4, 0])
+}
+
+fn why_of_one(core: &dyn Engine) -> Held {
+    path(core, &with_links(core, 1, &[])?, &[0])
+}
+
+fn why_of_long_line(core: &dyn Engine) -> Held {
+    let (ascending, descending): (Vec<u8>, Vec<u8>) = ((0..40).collect(), (0..40).rev().collect());
+    let links: Vec<(usize, usize)> = (0..39).map(|a| (a, a + 1)).collect();
+    let whole = rested(core, 40, &links)?;
+    path(core, &whole, &ascending)?;
+    path(core, &whole, &descending)?;
+    path(core, &whole, &ascending[7..30])?;
+    let parted = rested(core, 40, &links[..38])?;
+    path(core, &parted, &descending[1..])?;
+    reason(core, &parted, (0, 39), 2, &ascending[..39])?;
+    reason(core, &parted, (38, 39), 2, &ascending[..39])?;
+    reason(core, &parted, (39, 0), 2, &[39])
+}
+
+fn why_of_complete(core: &dyn Engine) -> Held {
+    let links: Vec<(usize, usize)> = (0..40).flat_map(|a| (a + 1..40).map(move |b| (a, b))).collect();
+    let state = rested(core, 40, &links)?;
+    path(core, &state, &[39, 0])?;
+    path(core, &state, &[0, 39])?;
+    path(core, &state, &[20])
+}
+
+fn why_refused(core: &dyn Engine) -> Held {
+    let mut state = with_links(core, 3, &[])?;
+    let refused = |state: &[u8], node: usize, destination: usize, room: usize, code: u32| {
+        let mut list = vec![0xee; room];
+        let what = format!("why {node} {destination} in {room} bytes");
+        let answer = core.why(state, node, destination, &mut list);
+        same(&what, answer, Reason { code, kind: 0, count: 0 })?;
+        same("the list is untouched", list.iter().all(|&byte| byte == 0xee), true)
+    };
+    refused(&state, 0, 1, 0, 2)?;
+    refused(&state, 0, 3, 3, 4)?;
+    refused(&state, 65_537, 0, 0, 4)?;
+    same("up 0 1", core.up(&mut state, 0, 1), 0)?;
+    refused(&state, 0, 1, 3, 12)?;
+    refused(&state, 2, 2, 0, 12)?;
+    refused(&state, 3, 0, 0, 4)?;
+    refused(&state, 0, usize::MAX, 3, 4)?;
+    same("run", core.run(&mut state, 255).code, 0)?;
+    refused(&state, 0, 1, 1, 2)?;
+    refused(&state, 0, 2, 1, 2)?;
+    state[1] = 1;
+    refused(&state, 3, 3, 0, 3)?;
+    refused(&state[..117], 3, 3, 0, 2)?;
+    state[0] = 41;
+    refused(&state[..117], 3, 3, 0, 1)?;
+    refused(&[], 3, 3, 0, 2)
 }

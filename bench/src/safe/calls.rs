@@ -1,9 +1,10 @@
 //! The calls with their refusals: what is judged, in document 01's order, then the step. Uses all of this folder.
 
-use super::check::sound;
+use super::check::{all_are, sound};
 use super::parts::{NONE, Parts, PartsMut, row, size};
+use super::why::explain;
 use super::worth::{LINE, pairs, try_all};
-use hop_harness::engine::{Answer, Engine, Ran, Read};
+use hop_harness::engine::{Answer, Engine, Ran, Read, Reason};
 
 /// The implementation that the core is timed against.
 pub struct Safe;
@@ -30,6 +31,11 @@ fn below(n: usize, a: usize, b: usize) -> Judged<()> {
 fn ends(n: usize, a: usize, b: usize) -> Judged<()> {
     below(n, a, b)?;
     if a == b { Err(5) } else { Ok(()) }
+}
+
+/// No entry waits.
+fn at_rest(state: &[u8], n: usize) -> Judged<()> {
+    if all_are(Parts::of(state, n).lengths, 0) { Ok(()) } else { Err(12) }
 }
 
 fn code(judged: Judged<()>) -> u32 {
@@ -82,13 +88,19 @@ fn status(state: &[u8], node: usize, out: &mut [u8]) -> Judged<u32> {
 
 fn worth(state: &[u8], trial: &mut [u8], lines: &mut [i32]) -> Judged<u32> {
     let n = sound_state(state)?;
-    if Parts::of(state, n).lengths.iter().any(|&length| length != 0) {
-        return Err(12);
-    }
+    at_rest(state, n)?;
     let trial = trial.get_mut(..size(n)).ok_or(2_u32)?;
     let lines = lines.get_mut(..LINE * pairs(n)).ok_or(2_u32)?;
     try_all(&state[..size(n)], n, trial, lines);
     Ok(pairs(n) as u32)
+}
+
+fn why(state: &[u8], node: usize, destination: usize, list: &mut [u8]) -> Judged<Reason> {
+    let n = sound_state(state)?;
+    below(n, node, destination)?;
+    at_rest(state, n)?;
+    let (kind, count) = explain(&Parts::of(state, n), node, destination, list).ok_or(2_u32)?;
+    Ok(Reason { code: 0, kind, count: count as u32 })
 }
 
 // A record takes a few nanoseconds, and a call of the archive cannot be inlined: so the two for records are not either.
@@ -227,5 +239,9 @@ impl Engine for Safe {
 
     fn worth(&self, state: &[u8], trial: &mut [u8], lines: &mut [i32]) -> Answer {
         one(worth(state, trial, lines))
+    }
+
+    fn why(&self, state: &[u8], node: usize, destination: usize, list: &mut [u8]) -> Reason {
+        why(state, node, destination, list).unwrap_or_else(|code| Reason { code, ..Reason::default() })
     }
 }

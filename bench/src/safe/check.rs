@@ -33,7 +33,7 @@ fn links(parts: &Parts) -> bool {
 }
 
 /// Every byte is the one given.
-fn all_are(bytes: &[u8], given: u8) -> bool {
+pub fn all_are(bytes: &[u8], given: u8) -> bool {
     bytes.iter().fold(0, |wrong, &byte| wrong | byte ^ given) == 0
 }
 

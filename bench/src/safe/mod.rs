@@ -5,6 +5,7 @@ pub mod calls;
 mod check;
 pub mod parts;
 mod steps;
+mod why;
 mod worth;
 
 pub use calls::Safe;

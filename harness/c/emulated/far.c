@@ -243,3 +243,9 @@ hop_answer hop_worth(const uint8_t *state, size_t len, uint8_t *trial, size_t tr
     lent all[LENT] = {only_read(state, len), written(trial, trial_len), written(lines, lines_len * sizeof *lines)};
     return two(hand_on((turn_call){.which = WORTH}, all));
 }
+
+hop_reason hop_why(const uint8_t *state, size_t len, size_t node, size_t destination, uint8_t *list, size_t list_len)
+{
+    turn_answer is = ask(WHY, node, destination, 0, only_read(state, len), written(list, list_len));
+    return (hop_reason){is.field[0], is.field[1], is.field[2]};
+}

@@ -182,6 +182,10 @@ static turn_answer asked(const turn_call *call, const fence all[LENT])
         int32_t *list = (int32_t *)(void *)lent(&all[2]);
         return two(hop_worth(state, length, out, room, list, all[2].length / sizeof *list));
     }
+    case WHY: {
+        hop_reason reason = hop_why(state, length, a, b, out, room);
+        return (turn_answer){0, {reason.code, reason.kind, reason.count, 0}};
+    }
     default:
         must(0, "served: no such call\n");
         return one(0);

@@ -21,10 +21,11 @@
 
 enum {
     SIZE, MAKE, CHECK, UP, DOWN, DELIVER, PASS, RUN, DISTANCE, DOWNSTREAM, QUEUE_LENGTH, TOTAL_QUEUED, STATUS,
-    WRITE_EVENT, READ_EVENT, WORTH
+    WRITE_EVENT, READ_EVENT, WORTH, WHY
 };
 
-/* Which call, its numbers, and its buffers: the state or the bytes, the output, the place or the trial, the list. */
+/* Which call, its numbers, and its buffers: the state or the bytes; the output, the place, the trial or the list of
+ * bytes; the list of numbers. */
 typedef struct {
     uint64_t which, number[3];
     struct {

@@ -1,4 +1,5 @@
-//! What must be true of sound states and at rest: waiting entries, true hop counts, downstreams.
+//! What must be true of sound states and at rest: waiting entries, true hop counts, downstreams, what links are worth,
+//! and reasons.
 //! Uses the links of a state; hop counts are found by a search that has nothing of the rule.
 
 use crate::second::rule::State;
@@ -70,4 +71,46 @@ pub fn worth(before: &[Vec<usize>], after: &[Vec<usize>]) -> [i64; 3] {
     let both = || hops().filter(|&(&was, &is)| was.max(is) < n);
     let change = both().map(|(_, &is)| is as i64).sum::<i64>() - both().map(|(&was, _)| was as i64).sum::<i64>();
     [lost as i64, gained as i64, change]
+}
+
+/// What a list shows, held to the links: a path (kind 1) or a set (kind 2) that is the reason for a node and a
+/// destination. Among shortest paths it does not choose.
+pub fn reason(state: &State, node: usize, destination: usize, kind: u32, list: &[u8]) -> Result<(), String> {
+    let list: Vec<usize> = list.iter().copied().map(usize::from).collect();
+    let demands = match kind {
+        _ if list.iter().any(|&u| u >= state.n) => vec![("instances only", false)],
+        1 => path(state, node, destination, &list),
+        2 => set(state, node, destination, &list),
+        _ => vec![("a kind that is known", false)],
+    };
+    match demands.into_iter().find(|&(_, holds)| !holds) {
+        Some((demand, _)) => Err(format!("{node} to {destination}, kind {kind}, {list:?} has not: {demand}")),
+        None => Ok(()),
+    }
+}
+
+fn path(state: &State, node: usize, destination: usize, list: &[usize]) -> Vec<(&'static str, bool)> {
+    let remaining = hops(state, destination);
+    let once = |(place, u): (usize, &usize)| !list[..place].contains(u);
+    vec![
+        ("the node first", list.first() == Some(&node)),
+        ("the destination last", list.last() == Some(&destination)),
+        ("an up link at each step", list.windows(2).all(|step| state.links[step[0]][step[1]])),
+        ("the fewest hops", list.len() == hops(state, node)[destination] + 1),
+        ("one hop less at each step", list.windows(2).all(|step| remaining[step[0]] == remaining[step[1]] + 1)),
+        ("no instance twice", list.iter().enumerate().all(once)),
+    ]
+}
+
+fn set(state: &State, node: usize, destination: usize, list: &[usize]) -> Vec<(&'static str, bool)> {
+    let hops = hops(state, node);
+    let joined: Vec<usize> = (0..state.n).filter(|&u| hops[u] < state.n).collect();
+    let leads_inside = |&u: &usize| state.neighbours(u).iter().all(|w| list.contains(w));
+    vec![
+        ("the node inside", list.contains(&node)),
+        ("the destination outside", !list.contains(&destination)),
+        ("an ascending order", list.windows(2).all(|two| two[0] < two[1])),
+        ("no up link that leaves it", list.iter().all(leads_inside)),
+        ("all that is joined and nothing else", list == joined),
+    ]
 }

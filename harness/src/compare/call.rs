@@ -54,6 +54,13 @@ pub enum Call {
         lines: usize,
         seed: u64,
     },
+    /// With so many bytes for the list, and random ones in it before.
+    Why {
+        node: usize,
+        destination: usize,
+        room: usize,
+        seed: u64,
+    },
 }
 
 /// The number, then the other answers; 0 where a call has fewer.
@@ -63,6 +70,9 @@ pub type Answers = [u32; 3];
 pub fn blank(room: usize) -> Vec<u8> {
     (0..room).map(|place| 0xd0 ^ place as u8).collect()
 }
+
+/// A list that holds the reason of any node and destination of any state.
+pub const ANY_REASON: usize = 40;
 
 /// What the worth of a state of n nodes needs: bytes for the trial, numbers for the lines.
 pub fn needed(n: usize) -> (usize, usize) {
@@ -76,11 +86,18 @@ impl Call {
         Call::Worth { trial, lines, seed }
     }
 
-    /// The call's output before it: room for a record, with bytes that no record is likely to have, or a trial.
+    /// The reason of a node and a destination, in a list that is long enough for any.
+    pub fn why(node: usize, destination: usize) -> Call {
+        Call::Why { node, destination, room: ANY_REASON, seed: node as u64 ^ (destination as u64).rotate_left(32) }
+    }
+
+    /// The call's output before it: room for a record, with bytes that no record is likely to have, a trial, or a list
+    /// of bytes.
     pub fn blank(&self) -> Vec<u8> {
         match *self {
             Call::Status { room, .. } => blank(room),
             Call::Worth { trial, seed, .. } => Random::new(seed).bytes(trial),
+            Call::Why { room, seed, .. } => Random::new(seed).bytes(room),
             _ => Vec::new(),
         }
     }
@@ -93,7 +110,7 @@ impl Call {
         }
     }
 
-    /// Has a core do it, with an output or a trial, and a list.
+    /// Has a core do it, with an output, a trial or a list of bytes, and a list of numbers.
     pub fn on(&self, core: &dyn Engine, state: &mut [u8], out: &mut [u8], list: &mut [i32]) -> Answers {
         let number = |code: u32| [code, 0, 0];
         let one = |answer: crate::engine::Answer| [answer.code, answer.value, 0];
@@ -114,6 +131,10 @@ impl Call {
             Call::TotalQueued => one(core.total_queued(state)),
             Call::Status { node, .. } => one(core.status(state, node, out)),
             Call::Worth { .. } => one(core.worth(state, out, list)),
+            Call::Why { node, destination, .. } => {
+                let reason = core.why(state, node, destination, out);
+                [reason.code, reason.kind, reason.count]
+            }
         }
     }
 
@@ -127,6 +148,7 @@ impl Call {
         // There is room for five nodes and no more, so that no call makes trials of large states.
         calls.push(Call::worth(5, first as u64 ^ (second as u64).rotate_left(32)));
         calls.push(Call::Worth { trial: 0, lines: 0, seed: 0 });
+        calls.extend([0, 1, 2].map(|room| Call::Why { node: first, destination: second, room, seed: 0 }));
         calls
     }
 
@@ -139,6 +161,7 @@ impl Call {
             Call::Distance { node: first, destination: second },
             Call::Downstream { node: first, destination: second },
             Call::QueueLength { from: first, to: second },
+            Call::why(first, second),
         ]
     }
 }

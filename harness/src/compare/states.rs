@@ -102,6 +102,61 @@ pub fn at_rest(n: usize, links: &[(usize, usize)]) -> State {
     state
 }
 
+/// A random site at rest.
+pub fn site(random: &mut Random, n: usize) -> State {
+    let links = links(random, n);
+    at_rest(n, &links)
+}
+
+/// Puts an entry that tells nothing new at a queue's tail. The state stays sound where the destination does not wait.
+fn add_entry(state: &mut State, from: usize, to: usize, destination: usize) {
+    let value = state.distances[from][destination];
+    state.queues[from][to].push_back(Entry { destination, value });
+}
+
+/// A site at rest, or one in which a single entry waits.
+pub fn almost_at_rest(random: &mut Random, n: usize) -> State {
+    let mut state = site(random, n);
+    let up: Vec<(usize, usize)> = pairs(n).into_iter().filter(|&(a, b)| state.links[a][b]).collect();
+    if random.chance(60) && !up.is_empty() {
+        let &(a, b) = random.pick(&up);
+        let (from, to) = if random.chance(50) { (a, b) } else { (b, a) };
+        add_entry(&mut state, from, to, random.below(n));
+    }
+    state
+}
+
+/// Sites that are not at rest, though hardly anything tells so: one entry in each queue in turn, the others empty; one
+/// in each direction of a link; and so many that a byte's sum of the lengths is 0.
+pub fn hardly_waiting(random: &mut Random) -> Vec<State> {
+    let mut states = Vec::new();
+    for n in [2, 3, 5, 40] {
+        let whole = at_rest(n, &pairs(n));
+        // Of a large site some nodes.
+        let nodes: Vec<usize> = if n == 40 { vec![0, 1, 20, 38, 39] } else { (0..n).collect() };
+        let ends = nodes.iter().flat_map(|&from| nodes.iter().map(move |&to| (from, to)));
+        for (from, to) in ends.filter(|(from, to)| from != to) {
+            let mut state = whole.clone();
+            add_entry(&mut state, from, to, random.below(n));
+            states.push(state.clone());
+            if from < to {
+                add_entry(&mut state, to, from, random.below(n));
+                states.push(state);
+            }
+        }
+    }
+    // Entries of each queue, and to how many of the next nodes: 256, 512 and 1,024 of 16 nodes, 49,920 of 40.
+    for (n, length, next) in [(16, 16, 1), (16, 16, 2), (16, 16, 4), (40, 32, 39)] {
+        let mut state = at_rest(n, &pairs(n));
+        for (from, step) in (0..n).flat_map(|from| (1..=next).map(move |step| (from, step))) {
+            (0..length).for_each(|v| add_entry(&mut state, from, (from + step) % n, v));
+        }
+        assert_eq!(state.total_queued() % 256, 0, "a sum that a byte does not show");
+        states.push(state);
+    }
+    states
+}
+
 /// A state that random events reach: some links at once, then single events.
 pub fn reached(random: &mut Random, n: usize) -> State {
     let mut state = State::fresh(n);

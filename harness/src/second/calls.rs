@@ -8,7 +8,7 @@ use super::rule::{MOST_NODES, State};
 use super::sound::sound;
 use super::stored::{Blocks, NONE, size, stored};
 use super::worth::Line;
-use crate::engine::{Answer, Engine, Ran, Read};
+use crate::engine::{Answer, Engine, Ran, Read, Reason};
 
 /// The second implementation.
 pub struct Second;
@@ -61,6 +61,15 @@ fn worth(buffer: &[u8], trial: &mut [u8], list: &mut [i32]) -> Result<usize, Ref
     list.copy_from_slice(&lines.iter().flat_map(Line::numbers).collect::<Vec<i32>>());
     trial.copy_from_slice(&bytes);
     Ok(lines.len())
+}
+
+/// The reason of a sound state: 4, then 12, and last 2 for a list that cannot hold all of it. Gives the kind and how
+/// many bytes were written.
+pub fn why(state: &State, node: usize, destination: usize, list: &mut [u8]) -> Result<(u32, usize), Refusal> {
+    let reason = state.try_why(node, destination)?;
+    let bytes = reason.bytes();
+    list.get_mut(..bytes.len()).ok_or(Refusal::Short)?.copy_from_slice(&bytes);
+    Ok((reason.kind(), bytes.len()))
 }
 
 impl Engine for Second {
@@ -148,5 +157,12 @@ impl Engine for Second {
 
     fn worth(&self, buffer: &[u8], trial: &mut [u8], lines: &mut [i32]) -> Answer {
         one(worth(buffer, trial, lines))
+    }
+
+    fn why(&self, buffer: &[u8], node: usize, destination: usize, list: &mut [u8]) -> Reason {
+        match state_in(buffer).and_then(|state| why(&state, node, destination, list)) {
+            Ok((kind, count)) => Reason { code: 0, kind, count: wide(count) },
+            Err(refusal) => Reason { code: refusal.number(), kind: 0, count: 0 },
+        }
     }
 }

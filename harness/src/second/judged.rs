@@ -2,6 +2,7 @@
 
 use super::refusal::Refusal;
 use super::rule::{Entry, MOST_NODES, State};
+use super::why::Reason;
 
 type Judged<T> = Result<T, Refusal>;
 
@@ -70,6 +71,13 @@ impl State {
     /// At rest: no entry waits.
     pub fn try_rest(&self) -> Judged<()> {
         if self.total_queued() == 0 { Ok(()) } else { Err(Refusal::NotAtRest) }
+    }
+
+    /// The reason why a node reaches a destination or does not: 4 for either number, then 12.
+    pub fn try_why(&self, node: usize, destination: usize) -> Judged<Reason> {
+        self.below_n(&[node, destination])?;
+        self.try_rest()?;
+        Ok(self.why(node, destination))
     }
 
     /// What a status record says of a node, in its order.

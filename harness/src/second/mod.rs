@@ -10,6 +10,7 @@ pub mod refusal;
 pub mod rule;
 pub mod sound;
 pub mod stored;
+pub mod why;
 pub mod worth;
 
 pub use calls::Second;

@@ -8,7 +8,7 @@ use crate::compare::states;
 use crate::second::stored::{Blocks, stored};
 
 /// Numbers at the edges of n and of every width that a caller's number could be cut to.
-fn classes(n: usize) -> Vec<usize> {
+pub fn classes(n: usize) -> Vec<usize> {
     let mut classes = vec![0, 1, n - 1, n, n + 1, 39, 40, 41, 127, 128, 254, 255, 256, 257, 256 + n, 511];
     classes.extend([65_535, 65_536, 65_537, 65_536 + n - 1, (1 << 31) - 1, 1 << 31, (1 << 32) - 1, 1 << 32]);
     classes.extend([(1 << 32) + 1, (1 << 32) + n - 1, isize::MAX as usize, 1 << 63, usize::MAX - 1, usize::MAX]);

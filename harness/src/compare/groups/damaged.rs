@@ -1,10 +1,12 @@
 //! Stored states that are not sound, or only look so. Uses the damages and the ground.
 
+use super::runs::behind;
 use crate::compare::call::Call;
 use crate::compare::damage::{self, DAMAGES};
 use crate::compare::ground::Ground;
 use crate::compare::random::Random;
 use crate::compare::states;
+use crate::second::rule::State;
 use crate::second::sound::broken;
 use crate::second::stored::{Blocks, size, stored};
 
@@ -17,6 +19,23 @@ pub fn judged(ground: &mut Ground, random: &mut Random, buffer: &[u8]) -> Result
         ground.agree(buffer, random.pick(&calls))?;
     }
     Ok(())
+}
+
+/// A state's bytes with others behind them; often damaged, at times cut or with another first byte.
+pub fn spoiled(random: &mut Random, state: &State) -> Vec<u8> {
+    let mut blocks = Blocks::of(state);
+    match random.below(5) {
+        0 => damage::bytes(random, &mut blocks, 1),
+        1 => _ = random.pick(DAMAGES)(random, &mut blocks),
+        _ => {}
+    }
+    let mut bytes = [blocks.write(), behind(random)].concat();
+    match random.below(10) {
+        0 => bytes.truncate(random.below(bytes.len())),
+        1 => bytes[0] = *random.pick(&[0, 41, 128, 255]),
+        _ => {}
+    }
+    bytes
 }
 
 pub fn bytes(ground: &mut Ground, random: &mut Random) -> Result<(), String> {

@@ -10,6 +10,7 @@ mod queues;
 mod records;
 mod runs;
 mod small;
+mod why;
 mod worth;
 
 use super::ground::Ground;
@@ -66,6 +67,15 @@ pub const GROUPS: &[Group] = &[
     whole("worth-every-room", "the same of small sites, in trials and lists of every length", worth::every_room),
     whole("worth-node-counts", "the same of a site of each n from 1 to 24, of 32 and of 40", worth::node_counts),
     whole("worth-one-waits", "the same asked where one entry waits, in each queue in turn", worth::one_waits),
+    whole("why-every-set", "the reason of every pair, for every set of links of up to five nodes", why::every_set),
+    whole("why-every-room", "the same of small sites, in lists of every length and far longer ones", why::every_room),
+    whole(
+        "why-node-counts",
+        "the same of four sites of each n from 1 to 40, every pair of one at least",
+        why::node_counts,
+    ),
+    whole("why-one-waits", "the same asked where one entry waits, in each queue in turn", why::one_waits),
+    whole("why-order", "its refusals, every two or more of them together", why::order),
     whole("kinds", "every event kind and many others, written into rooms of every length", records::kinds),
     whole("fronts", "every front of a record, cut at every byte", records::fronts),
     cases("make", 2, "node counts and buffers of every class, any bytes before it", lengths::make),
@@ -85,6 +95,9 @@ pub const GROUPS: &[Group] = &[
     cases("worth", 4, "what each link is worth, of random sites, in trials and lists of every class", worth::sites),
     cases("worth-refused", 3, "its refusals and their order", worth::refused),
     cases("worth-by-search", 3, "its lines held to searches over the links, and to runs", worth::by_search),
+    cases("why", 4, "reasons of random sites, in lists of every class", why::sites),
+    cases("why-refused", 3, "their refusals and their order", why::refused),
+    cases("why-by-search", 3, "reasons held to searches over the links, and to the downstreams", why::by_search),
     cases("read", 3, "any bytes and damaged records through the reader", records::read),
     cases("write", 1, "records written and read back", records::write),
     cases("program", 5, "random scripts through the built program", program::scripts),

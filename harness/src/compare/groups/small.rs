@@ -70,6 +70,9 @@ fn every_call(ground: &mut Ground, state: &State) -> Result<u64, String> {
     for first in 0..=state.n {
         calls.extend([0, 13, 14, 15].map(|room| Call::Status { node: first, room }));
         calls.extend((0..=state.n).flat_map(|second| Call::with_two(first, second)));
+        for (destination, room) in (0..=state.n).flat_map(|second| [0, 1, 2, 3].map(|room| (second, room))) {
+            calls.push(Call::Why { node: first, destination, room, seed: calls.len() as u64 });
+        }
     }
     for call in &calls {
         ground.agree(&bytes, call)?;

@@ -1,20 +1,15 @@
 //! What each link is worth: sites at rest, states that are not, trials and lists of every length. Uses the rule, the
 //! bounds and the ground.
 
+use super::damaged::spoiled;
 use super::runs::behind;
 use crate::compare::bounds;
 use crate::compare::call::{Call, needed};
-use crate::compare::damage::{self, DAMAGES};
 use crate::compare::ground::{Ground, outcome};
 use crate::compare::random::Random;
-use crate::compare::states::{self, at_rest, pairs};
-use crate::second::rule::{Entry, State};
-use crate::second::stored::{Blocks, stored};
-
-fn site(random: &mut Random, n: usize) -> State {
-    let links = states::links(random, n);
-    at_rest(n, &links)
-}
+use crate::compare::states::{self, almost_at_rest, at_rest, pairs, site};
+use crate::second::rule::State;
+use crate::second::stored::stored;
 
 /// Small sites often and large ones at times: a call has as many trials as there are pairs.
 fn node_count(random: &mut Random) -> usize {
@@ -75,12 +70,6 @@ pub fn node_counts(ground: &mut Ground) -> Result<u64, String> {
     Ok(sites.len() as u64)
 }
 
-/// Puts an entry that tells nothing new at a queue's tail. The state stays sound where the destination does not wait.
-fn add_entry(state: &mut State, from: usize, to: usize, destination: usize) {
-    let value = state.distances[from][destination];
-    state.queues[from][to].push_back(Entry { destination, value });
-}
-
 /// The state is sound and not at rest, and both say so, in buffers that would do.
 fn not_at_rest(ground: &mut Ground, state: &State, seed: u64) -> Result<(), String> {
     let (bytes, call) = (stored(state), Call::worth(state.n, seed));
@@ -91,28 +80,14 @@ fn not_at_rest(ground: &mut Ground, state: &State, seed: u64) -> Result<(), Stri
     ground.hold(&bytes, &call, &should)
 }
 
-/// One entry in each queue in turn, the others empty; and so many entries that a byte's sum of them is 0.
+/// Sites where one entry waits, or so many that a byte's sum of them is 0.
 pub fn one_waits(ground: &mut Ground) -> Result<u64, String> {
     let random = &mut Random::of_case(0, "worth-one-waits", 0);
-    let mut count = 0;
-    for n in [2, 3, 5, 40] {
-        let whole = at_rest(n, &pairs(n));
-        // Of a large site some nodes.
-        let nodes: Vec<usize> = if n == 40 { vec![0, 1, 20, 38, 39] } else { (0..n).collect() };
-        let ends = nodes.iter().flat_map(|&from| nodes.iter().map(move |&to| (from, to)));
-        for (from, to) in ends.filter(|(from, to)| from != to) {
-            let mut state = whole.clone();
-            add_entry(&mut state, from, to, random.below(n));
-            not_at_rest(ground, &state, random.word())?;
-            count += 1;
-        }
+    let states = states::hardly_waiting(random);
+    for state in &states {
+        not_at_rest(ground, state, random.word())?;
     }
-    let mut state = at_rest(16, &pairs(16));
-    for from in 0..16 {
-        (0..16).for_each(|v| add_entry(&mut state, from, (from + 1) % 16, v));
-    }
-    not_at_rest(ground, &state, random.word())?;
-    Ok(count + 1)
+    Ok(states.len() as u64)
 }
 
 /// A site with bytes behind it; trials and lists that are exact, longer, short by one, and none at all.
@@ -129,35 +104,6 @@ pub fn sites(ground: &mut Ground, random: &mut Random) -> Result<(), String> {
         ground.agree(&bytes, &Call::Worth { trial, lines, seed: random.word() })?;
     }
     Ok(())
-}
-
-/// A site at rest, or one in which a single entry waits.
-fn almost_at_rest(random: &mut Random, n: usize) -> State {
-    let mut state = site(random, n);
-    let up: Vec<(usize, usize)> = pairs(n).into_iter().filter(|&(a, b)| state.links[a][b]).collect();
-    if random.chance(60) && !up.is_empty() {
-        let &(a, b) = random.pick(&up);
-        let (from, to) = if random.chance(50) { (a, b) } else { (b, a) };
-        add_entry(&mut state, from, to, random.below(n));
-    }
-    state
-}
-
-/// A state's bytes with others behind them; often damaged, at times cut or with another first byte.
-fn spoiled(random: &mut Random, state: &State) -> Vec<u8> {
-    let mut blocks = Blocks::of(state);
-    match random.below(5) {
-        0 => damage::bytes(random, &mut blocks, 1),
-        1 => _ = random.pick(DAMAGES)(random, &mut blocks),
-        _ => {}
-    }
-    let mut bytes = [blocks.write(), behind(random)].concat();
-    match random.below(10) {
-        0 => bytes.truncate(random.below(bytes.len())),
-        1 => bytes[0] = *random.pick(&[0, 41, 128, 255]),
-        _ => {}
-    }
-    bytes
 }
 
 /// The order of refusals: each of a state's, with a trial and a list that would do and with short ones.
