@@ -5,7 +5,8 @@
  * hops and the downstream neighbour on the way there. Links are brought up and down; entries are
  * delivered one at a time, in passes, or in runs of passes until no queue holds any. From any sound
  * state, and without link events, rest comes within n passes, and distances are then true hop counts.
- * For a state at rest one call tries every link out in a second buffer, and says what each is worth.
+ * For a state at rest one call tries every link out in a second buffer, and says what each is worth; and
+ * another says why a node reaches a destination in so many hops, or not at all.
  *
  * THE STATE is a buffer of bytes that the caller owns: hop_size(n) bytes at its front, which can be kept
  * in a file or handed on as they are. Bytes of the buffer after these are never read or written. Every
@@ -38,7 +39,7 @@
  * so many numbers of a list. Nodes, destinations, node counts and places are full size_t, so that no number
  * is cut down on its way in: 65,537 is refused and not taken for 1. A state and an output must not overlap,
  * nor may any two of a state, a trial and a list, nor may a place lie inside the bytes that are read. A list
- * is aligned as int32_t is. The core relies on all this and cannot check it.
+ * of numbers is aligned as int32_t is. The core relies on all this and cannot check it.
  *
  * No function allocates, blocks, prints, keeps anything between calls, or calls another library. Calls on
  * different buffers may run at the same time; calls on one buffer that change it may not.
@@ -75,6 +76,11 @@ typedef struct {
 typedef struct {
     uint32_t code, kind, first, second;
 } hop_event;
+
+/* A reason that was written: its kind, 1 a path and 2 a set, and its bytes. Both are 0 where the number is not. */
+typedef struct {
+    uint32_t code, kind, count;
+} hop_reason;
 
 /* ------------------------------------------------------------------ making and checking a state */
 
@@ -231,6 +237,41 @@ hop_answer hop_total_queued(const uint8_t *state, size_t len);
  */
 hop_answer hop_worth(const uint8_t *state, size_t len, uint8_t *trial, size_t trial_len, int32_t *lines,
                      size_t lines_len);
+
+/* ------------------------------------------------------------------ why so many hops, or none at all */
+
+/* Says, for a state at rest, why a node reaches a destination in so many hops, or why not at all. The reason is written
+ * to the front of the list, a byte for each node that it names. The state is only read.
+ *
+ *     kind   the bytes are                                                                        count
+ *     1      a path: from the node to the destination along the downstreams, both ends included   1 to n: its hops + 1
+ *     2      a set: the nodes that up links join to the node, itself included, ascending          1 to n-1
+ *
+ * There is a path exactly where the node has a route to the destination, a distance below n. Each node of it but the
+ * first is the downstream of the one before, and one hop nearer to the destination; so its hops are the distance, and
+ * no path over up links is shorter. A node is its own path to itself, one byte. Where there is no route the destination
+ * is outside the set, and no up link leaves it.
+ *
+ * A list of n bytes is always enough, and one of 40 for every state. Bytes of the list after the reason stay as they
+ * were. count: the bytes written.
+ *
+ * WHAT CAN BE CHECKED. Whoever holds the links need not take the core's word for a set. That the node is in it, the
+ * destination is not, and no up link has one end inside and the other outside can be seen from the links, and is all
+ * that it takes: no path over up links gets out. Of a path the links show that it is one: it begins at the node, ends
+ * at the destination, and each step goes over an up link. So there are no more hops than its own. That there are no
+ * fewer is the core's proved word, or what a search of the checker's own finds.
+ *
+ * Refuses: the state's own; 4; 12 if an entry waits (bring the state to rest first, or a copy of it: hop_run); 2 if
+ * list_len is below the bytes of this reason. A refusal does not tell how many they are: lend n bytes.
+ *
+ *     uint8_t list[40];                                      // enough for every state
+ *     hop_reason why = hop_why(state, len, 0, 2, list, sizeof list);
+ *     // with 4 nodes and the links 0-1 and 1-2, at rest: .code 0, .kind 1, .count 3, and the list begins with 0 1 2
+ *     why = hop_why(state, len, 2, 3, list, sizeof list);
+ *     // .code 0, .kind 2, .count 3, and the list begins with 0 1 2: no up link leads from these to any other
+ */
+hop_reason hop_why(const uint8_t *state, size_t len, size_t node, size_t destination, uint8_t *list,
+                   size_t list_len);
 
 /* ------------------------------------------------------------------ records */
 

@@ -24,6 +24,13 @@ pub struct Read {
     pub second: u32,
 }
 
+#[repr(C)]
+pub struct Why {
+    pub code: u32,
+    pub kind: u32,
+    pub count: u32,
+}
+
 unsafe extern "C" {
     fn hop_size(n: usize) -> usize;
     fn hop_make(state: *mut u8, len: usize, n: usize) -> u32;
@@ -45,6 +52,7 @@ unsafe extern "C" {
         lines: *mut i32,
         lines_len: usize,
     ) -> Answer;
+    fn hop_why(state: *const u8, len: usize, node: usize, destination: usize, list: *mut u8, list_len: usize) -> Why;
     fn hop_status(state: *const u8, len: usize, node: usize, out: *mut u8, out_len: usize) -> Answer;
     fn hop_write_event(kind: u32, first: u16, second: u16, out: *mut u8, out_len: usize) -> Answer;
     fn hop_read_event(bytes: *const u8, len: usize, place: *mut usize) -> Read;
@@ -100,6 +108,10 @@ pub fn total_queued(state: &[u8]) -> Answer {
 
 pub fn worth(state: &[u8], trial: &mut [u8], lines: &mut [i32]) -> Answer {
     unsafe { hop_worth(state.as_ptr(), state.len(), trial.as_mut_ptr(), trial.len(), lines.as_mut_ptr(), lines.len()) }
+}
+
+pub fn why(state: &[u8], node: usize, destination: usize, list: &mut [u8]) -> Why {
+    unsafe { hop_why(state.as_ptr(), state.len(), node, destination, list.as_mut_ptr(), list.len()) }
 }
 
 pub fn status(state: &[u8], node: usize, out: &mut [u8]) -> Answer {

@@ -23,16 +23,24 @@
 //!
 //! For a state at rest, [`State::worth`] tries every link out on a copy, and gives for each a [`Worth`]: how many routes
 //! are lost or gained, and how many hops the others take more or fewer. The state itself is only read.
+//!
+//! # Why so many hops, or none at all
+//!
+//! For a state at rest, [`State::why`] gives the [`Reason`]: the path that a node takes to a destination, or the set of
+//! nodes that it is joined to where the destination is not among them. [`Reason::holds`] checks either against the
+//! site's links without the core.
 
 mod answer;
 mod event;
 mod ffi;
+mod reason;
 mod refusal;
 mod state;
 mod status;
 mod worth;
 
 pub use event::{Event, Reader};
+pub use reason::Reason;
 pub use refusal::Refusal;
 pub use state::{Ran, State};
 pub use status::Status;

@@ -5,6 +5,7 @@ use crate::MOST_NODES;
 use crate::answer::{answered, done};
 use crate::event::Event;
 use crate::ffi;
+use crate::reason::Reason;
 use crate::refusal::Refusal;
 use crate::status::Status;
 use crate::worth::{Lines, Worth};
@@ -180,6 +181,41 @@ impl<B: AsRef<[u8]>> State<B> {
     pub fn write_worth<'a>(&self, trial: &mut [u8], list: &'a mut [i32]) -> Result<Lines<'a>, Refusal> {
         let lines = answered(ffi::worth(self.as_bytes(), trial, list))?;
         Ok(Lines::of_list(&list[..Worth::NUMBERS * lines]))
+    }
+
+    /// Why a node reaches a destination in so many hops, or not at all, for a state at rest: the path along the
+    /// downstreams, or the set of nodes that are joined to the node where there is no route.
+    ///
+    /// The reason is written to the front of a list that the caller owns and lends, a byte for each node, and is read
+    /// there. n bytes are always enough, and [`MOST_NODES`] for every state; what the list holds behind the reason
+    /// stays as it was, and after a refusal all of it does. The state's own bytes are only read, and nothing is
+    /// allocated.
+    ///
+    /// Refuses: [`NoSuchNode`](Refusal::NoSuchNode), [`NotAtRest`](Refusal::NotAtRest) if an entry waits, then
+    /// [`ShortBuffer`](Refusal::ShortBuffer) for a list that cannot hold this reason.
+    ///
+    /// ```
+    /// use hop::{Reason, State};
+    ///
+    /// // The line 0-1-2, and 3 apart.
+    /// let mut state = State::new(4)?;
+    /// state.up(0, 1)?;
+    /// state.up(1, 2)?;
+    /// state.run(255)?;
+    /// let mut list = [0; hop::MOST_NODES];
+    /// assert_eq!(state.why(0, 2, &mut list)?, Reason::Path(&[0, 1, 2]));
+    /// assert_eq!(state.why(2, 3, &mut list)?, Reason::Set(&[0, 1, 2]));
+    /// # Ok::<(), hop::Refusal>(())
+    /// ```
+    pub fn why<'a>(&self, node: usize, destination: usize, list: &'a mut [u8]) -> Result<Reason<'a>, Refusal> {
+        let why = ffi::why(self.as_bytes(), node, destination, list);
+        done(why.code)?;
+        let nodes = &list[..why.count as usize];
+        Ok(match why.kind {
+            1 => Reason::Path(nodes),
+            2 => Reason::Set(nodes),
+            kind => unreachable!("the archive gives the kinds that this crate knows, and not {kind}"),
+        })
     }
 
     /// A node's status.
