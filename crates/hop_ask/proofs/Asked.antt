@@ -5,17 +5,19 @@ use Prim.Native.Nat.{ℕ, _≤_, _<_}
 use native.Mathlib.Omega.{arith}
 use lib.ListN.{length}
 use borrow.Author.Tests.{ltb-false}
-use Rattle.hop_rule.specs.declared.Table.the-variants.{Distances, Downstreams, Lengths}
+use Rattle.hop_rule.specs.declared.Table.the-variants.{Lengths}
 use Rattle.hop_rule.specs.Rule as rule
+use Rattle.hop_rule.specs.Route as question
 use Rattle.hop_rule.specs.Stored.{nodes, readAs, read}
 use Rattle.hop_rule.specs.Records.{recordOf, statusRecord, written}
-use Rattle.hop_rule.specs.Calls.{Call, distance, downstream, queueLength, totalQueued, status, judge, refusals, short, done, outcome}
+use Rattle.hop_rule.specs.Calls.{Call, route, queueLength, totalQueued, status, judge, refusals, short, done, outcome}
 use Rattle.hop_laws.specs.Fine.{Fine}
 use Rattle.hop_laws.proofs.Calls.{judge-none}
 use Rattle.hop_laws.proofs.Records.{length-status}
 use Rattle.hop_laws.proofs.Ceiling.{total-fits, waiting-for-fits, waiting-from-fits, reached-fits}
-use Rattle.hop_cells.specs.Cells.{Room, get2}
-use Rattle.hop_cells.proofs.Read.{distance-read, downstream-read, length-read}
+use Rattle.hop_cells.specs.declared.Way.{Way}
+use Rattle.hop_cells.specs.Cells.{Room, get2, Reads}
+use Rattle.hop_cells.proofs.Read.{length-read}
 use Rattle.hop_counts.specs.Counts as counts
 use Rattle.hop_bridge.proofs.Top.{queued-read, waitingFor-read, waitingFrom-read, reached-read}
 use Rattle.hop_judge.specs.declared.Judged.{Judged}
@@ -24,10 +26,11 @@ use Rattle.hop_judge.specs.Verdict.{verdict}
 use Rattle.hop_judge.proofs.Judging.{gone, call-done}
 use Rattle.hop_judge.proofs.Known.{claim-known, fine-known, room-known, node-known}
 use Rattle.hop_ask.specs.declared.Answer.the-variants.{Value}
-use Rattle.hop_ask.specs.Answers.{asked}
+use Rattle.hop_ask.specs.declared.RouteAnswer.the-variants as answer
+use Rattle.hop_ask.specs.Answers.{asked, directed}
 
 module _ (s : List ℕ) {j : Judged} {n : ℕ} (g : j ≡ Go n) {x : ℕ} where
-  -- Common to all but status: what the code has is what the call answers.
+  -- Common to those with one value but status: what the code has is what the call answers.
   read-asked : (k : Call) {y : ℕ} → j ≡ verdict (judge (refusals k s [])) (nodes s) → asked (Value y) s [] ≡ done k s [] → (n ≡ nodes s → x ≡ y) → asked (Value x) s [] ≡ outcome k s []
   read-asked k e answer h = ap (λ v. asked (Value v) s []) (h (gone _ _ e g .1)) ∙ answer ∙ call-done k s [] (nodes s) e g
 
@@ -35,18 +38,15 @@ module _ (s : List ℕ) {j : Judged} {n : ℕ} (g : j ≡ Go n) {x : ℕ} where
   unfolding refusals done
   total-asked e h = read-asked totalQueued e refl (λ claim. h ∙ ap (λ m. counts.queued m s) claim ∙ queued-read s (fine-known s [] e g))
 
-  module _ (a b : ℕ) where
-    pub distance-asked : j ≡ verdict (judge (refusals (distance a b) s [])) (nodes s) → x ≡ get2 n Distances a b s → asked (Value x) s [] ≡ outcome (distance a b) s []
-    unfolding done
-    distance-asked e h = read-asked (distance a b) e refl (λ claim. h ∙ distance-read s claim a b)
+  pub length-asked : (a b : ℕ) → j ≡ verdict (judge (refusals (queueLength a b) s [])) (nodes s) → x ≡ get2 n Lengths a b s → asked (Value x) s [] ≡ outcome (queueLength a b) s []
+  unfolding done
+  length-asked a b e h = read-asked (queueLength a b) e refl (λ claim. h ∙ length-read s claim a b)
 
-    pub downstream-asked : j ≡ verdict (judge (refusals (downstream a b) s [])) (nodes s) → x ≡ get2 n Downstreams a b s → asked (Value x) s [] ≡ outcome (downstream a b) s []
-    unfolding done
-    downstream-asked e h = read-asked (downstream a b) e refl (λ claim. h ∙ downstream-read s claim a b)
-
-    pub length-asked : j ≡ verdict (judge (refusals (queueLength a b) s [])) (nodes s) → x ≡ get2 n Lengths a b s → asked (Value x) s [] ≡ outcome (queueLength a b) s []
-    unfolding done
-    length-asked e h = read-asked (queueLength a b) e refl (λ claim. h ∙ length-read s claim a b)
+-- A route has two answers.
+pub route-asked : (s : List ℕ) {j : Judged} {n : ℕ} (u v : ℕ) {r : Way} → j ≡ verdict (judge (refusals (route u v) s [])) (nodes s) → j ≡ Go n → Reads r (question.route (readAs n s) u v)
+    → directed (answer.Way (r .distance) (r .downstream)) s ≡ outcome (route u v) s []
+unfolding done
+route-asked s u v e g h = rw (h .distance, h .downstream, gone _ _ e g .1) (call-done (route u v) s [] (nodes s) e g)
 
 -- ---- status
 

@@ -11,11 +11,17 @@ ghost use mathlib.Core.Path.{_≡_};
 ghost use Prim.Native.Nat.{_<_};
 ghost use Rattle.hop_rule.specs.Calls as call;
 ghost use Rattle.hop_ask.specs.declared.Answer.the-variants.{Value};
-ghost use Rattle.hop_ask.specs.Answers.{Asked, Wrote};
+ghost use Rattle.hop_ask.specs.Answers.{Asked, Directed, Wrote};
 
 // A value, or the number of a refusal.
 pub enum Answer {
     Value(u32),
+    Refused(u32),
+}
+
+// The hops and the neighbour to send through, or the number of a refusal.
+pub enum RouteAnswer {
+    Way(u32, u32),
     Refused(u32),
 }
 
@@ -27,23 +33,18 @@ fn value(x: usize) -> Answer
     Answer::Value(x as u32)
 }
 
-// The distance from u to v; n where there is no route. Refuses 2, 1, 2, 3, 4.
-pub fn distance(s: &[u8], u: usize, v: usize) -> Answer
-    ensures { λ r. ⌜ Asked (call.distance u v) (now (s .entry)) r ⌝ }
+// The route from u to v: 0 and u for u itself, n and 255 where there is none. Refuses 2, 1, 2, 3, 4.
+pub fn route(s: &[u8], u: usize, v: usize) -> RouteAnswer
+    ensures { λ r. ⌜ Directed u v (now (s .entry)) r ⌝ }
 {
     match judge_pair(s, u, v) {
-        Judged::Refused(c) => Answer::Refused(c),
-        Judged::Go(n) => value(get2(s, n, Table::Distances, u, v)),
-    }
-}
-
-// The downstream neighbour of u for v; u for u itself, 255 for none. Refuses 2, 1, 2, 3, 4.
-pub fn downstream(s: &[u8], u: usize, v: usize) -> Answer
-    ensures { λ r. ⌜ Asked (call.downstream u v) (now (s .entry)) r ⌝ }
-{
-    match judge_pair(s, u, v) {
-        Judged::Refused(c) => Answer::Refused(c),
-        Judged::Go(n) => value(get2(s, n, Table::Downstreams, u, v)),
+        Judged::Refused(c) => RouteAnswer::Refused(c),
+        Judged::Go(n) => {
+            let way = hop_cells::route(s, n, u, v);
+            let distance = way.distance as u32;
+            let downstream = way.downstream as u32;
+            RouteAnswer::Way(distance, downstream)
+        }
     }
 }
 

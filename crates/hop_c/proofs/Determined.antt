@@ -12,7 +12,7 @@ use Rattle.hop_rule.specs.Calls.{Call, Outcome, done, outcome}
 use Rattle.hop_laws.proofs.Calls.{done-answers}
 use Rattle.hop_records.proofs.Answers.{wrote-fixed}
 use Rattle.hop_core.proofs.Answers.{told-fixed, told-fixed-answer, passed-fixed, ran-fixed}
-use Rattle.hop_ask.proofs.Answers.{asked-fixed, asked-fixed-answer}
+use Rattle.hop_ask.proofs.Answers.{asked-fixed, asked-fixed-answer, directed-fixed}
 use Rattle.hop_worth.proofs.Answers.{worth-fixed, never-refused-with-0}
 use Rattle.hop_why.proofs.Answers.{why-fixed, why-not-refused-with-0}
 use Rattle.hop_c.specs.Determined.{Determined, DeterminedForC, NoneRefusedWith0}
@@ -33,8 +33,7 @@ determined = record {
   deliver = λ s w u. told-fixed _;
   pass = λ s. passed-fixed _;
   run = λ s k. ran-fixed _;
-  distance = λ s u v. asked-fixed-answer _ _ _;
-  downstream = λ s u v. asked-fixed-answer _ _ _;
+  route = λ s u v. directed-fixed _ _;
   queue-length = λ s w u. asked-fixed-answer _ _ _;
   total-queued = λ s. asked-fixed-answer _ _ _;
   status = λ s out u. asked-fixed _ _;
@@ -56,8 +55,7 @@ determined-for-c = record {
   hop-size = λ n. is-fixed _;
   hop-pass = λ s. both-fixed _ _;
   hop-run = λ s k. both-fixed _ _;
-  hop-distance = λ s u v. is-fixed _;
-  hop-downstream = λ s u v. is-fixed _;
+  hop-route = λ s u v. is-fixed _;
   hop-queue-length = λ s w u. is-fixed _;
   hop-total-queued = λ s. is-fixed _;
   hop-status = λ s out u. both-fixed _ _;
@@ -78,8 +76,7 @@ unfolding done
 none-refused-with-0 = record {
   pass = λ s t. has-answer call.pass s [] (omega arith) refl refl;
   run = λ s t k. has-answer (call.run k) s [] (omega arith) refl refl;
-  distance = λ s u v. has-answer (call.distance u v) s [] (omega arith) refl refl;
-  downstream = λ s u v. has-answer (call.downstream u v) s [] (omega arith) refl refl;
+  route = λ s u v. has-answer (call.route u v) s [] (omega arith) refl refl;
   queue-length = λ s w u. has-answer (call.queueLength w u) s [] (omega arith) refl refl;
   total-queued = λ s. has-answer call.totalQueued s [] (omega arith) refl refl;
   status = λ s out left u. has-answer (call.status u) s out (omega arith) refl refl;

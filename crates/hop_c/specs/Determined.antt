@@ -22,13 +22,15 @@ use Rattle.hop_core.specs.declared.RunAnswer.the-variants as answer-of-run
 use Rattle.hop_core.specs.Answers.{Told, Passed, Ran}
 use Rattle.hop_ask.specs.declared.Answer.{Answer}
 use Rattle.hop_ask.specs.declared.Answer.the-variants.{Refused}
-use Rattle.hop_ask.specs.Answers.{Asked, Wrote}
+use Rattle.hop_ask.specs.declared.RouteAnswer.the-variants as answer-of-route
+use Rattle.hop_ask.specs.Answers.{Asked, Directed, Wrote}
 use Rattle.hop_worth.specs.Answers.{Worth}
 use Rattle.hop_why.specs.declared.WhyAnswer.the-variants as answer-of-why
 use Rattle.hop_why.specs.Answers.{Why}
 use Rattle.hop_c.specs.declared.HopAnswer.{HopAnswer}
+use Rattle.hop_c.specs.declared.HopWay.{HopWay}
 use Rattle.hop_c.specs.Edge as edge
-use Rattle.hop_c.specs.Edge.{sizeOf, answer}
+use Rattle.hop_c.specs.Edge.{sizeOf, answer, way}
 
 -- The calls of the core, with its own types.
 pub record Determined : Type 1 where
@@ -39,8 +41,7 @@ pub record Determined : Type 1 where
   pub deliver : (s : List ℕ) (w u : ℕ) → Fixed (Told (call.deliver w u) s)
   pub pass : (s : List ℕ) → Fixed (Passed s)
   pub run : (s : List ℕ) (k : ℕ) → Fixed (Ran k s)
-  pub distance : (s : List ℕ) (u v : ℕ) → FixedAnswer (Asked (call.distance u v) s)
-  pub downstream : (s : List ℕ) (u v : ℕ) → FixedAnswer (Asked (call.downstream u v) s)
+  pub route : (s : List ℕ) (u v : ℕ) → FixedAnswer (Directed u v s)
   pub queue-length : (s : List ℕ) (w u : ℕ) → FixedAnswer (Asked (call.queueLength w u) s)
   pub total-queued : (s : List ℕ) → FixedAnswer (Asked call.totalQueued s)
   pub status : (s out : List ℕ) (u : ℕ) → Fixed (Wrote (call.status u) s out)
@@ -62,8 +63,7 @@ pub record DeterminedForC : Type 0 where
   pub hop-size : (n : ℕ) → FixedAnswer (λ (r : ℕ). r ≡ sizeOf n)
   pub hop-pass : (s : List ℕ) → Fixed (edge.Answered (outcome call.pass s []))
   pub hop-run : (s : List ℕ) (k : ℕ) → Fixed (edge.Ran (outcome (call.run k) s []))
-  pub hop-distance : (s : List ℕ) (u v : ℕ) → FixedAnswer (λ (a : HopAnswer). a ≡ answer (outcome (call.distance u v) s []))
-  pub hop-downstream : (s : List ℕ) (u v : ℕ) → FixedAnswer (λ (a : HopAnswer). a ≡ answer (outcome (call.downstream u v) s []))
+  pub hop-route : (s : List ℕ) (u v : ℕ) → FixedAnswer (λ (a : HopWay). a ≡ way (outcome (call.route u v) s []))
   pub hop-queue-length : (s : List ℕ) (w u : ℕ) → FixedAnswer (λ (a : HopAnswer). a ≡ answer (outcome (call.queueLength w u) s []))
   pub hop-total-queued : (s : List ℕ) → FixedAnswer (λ (a : HopAnswer). a ≡ answer (outcome call.totalQueued s []))
   pub hop-status : (s out : List ℕ) (u : ℕ) → Fixed (edge.Wrote (outcome (call.status u) s out))
@@ -72,12 +72,11 @@ pub record DeterminedForC : Type 0 where
   pub hop-write-event : (out : List ℕ) (kind first second : ℕ) → Fixed (edge.Wrote (wroteEvent kind first second out))
   pub hop-read-event : (s : List ℕ) (p : ℕ) → Fixed (edge.Read s p)
 
--- And no contract lets a call whose answer is an enum say that it is refused with 0, which means done: a node's distance to itself, an empty queue, a pass at rest are values.
+-- And no contract lets a call whose answer is an enum say that it is refused with 0, which means done: a node's route to itself, an empty queue, a pass at rest are values.
 pub record NoneRefusedWith0 : Type 0 where
   pub pass : (s t : List ℕ) → Passed s (answer-of-pass.Refused 0) t → ⊥
   pub run : (s t : List ℕ) (k : ℕ) → Ran k s (answer-of-run.Refused 0) t → ⊥
-  pub distance : (s : List ℕ) (u v : ℕ) → Asked (call.distance u v) s (Refused 0) → ⊥
-  pub downstream : (s : List ℕ) (u v : ℕ) → Asked (call.downstream u v) s (Refused 0) → ⊥
+  pub route : (s : List ℕ) (u v : ℕ) → Directed u v s (answer-of-route.Refused 0) → ⊥
   pub queue-length : (s : List ℕ) (w u : ℕ) → Asked (call.queueLength w u) s (Refused 0) → ⊥
   pub total-queued : (s : List ℕ) → Asked call.totalQueued s (Refused 0) → ⊥
   pub status : (s out left : List ℕ) (u : ℕ) → Wrote (call.status u) s out (Refused 0) left → ⊥

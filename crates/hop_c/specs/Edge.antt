@@ -13,6 +13,7 @@ use Rattle.hop_rule.specs.Worth.{Valued}
 use Rattle.hop_rule.specs.Why.{Explained}
 use Rattle.hop_c.specs.declared.HopAnswer.{HopAnswer}
 use Rattle.hop_c.specs.declared.HopRan.{HopRan}
+use Rattle.hop_c.specs.declared.HopWay.{HopWay}
 use Rattle.hop_c.specs.declared.HopEvent.{HopEvent}
 use Rattle.hop_c.specs.declared.HopReason.{HopReason}
 
@@ -26,6 +27,9 @@ answer o = record { code = o .number; value = answerAt 0 o }
 
 abbrev pub ran : Outcome → HopRan
 ran o = record { code = o .number; passes = answerAt 0 o; deliveries = answerAt 1 o }
+
+abbrev pub way : Outcome → HopWay
+way o = record { code = o .number; distance = answerAt 0 o; downstream = answerAt 1 o }
 
 -- The contracts, for an outcome o: the struct is the outcome's, and so are the bytes that the call leaves, of the state or of the output.
 abbrev pub Answered : Outcome → HopAnswer → List ℕ → Type 0

@@ -1,7 +1,8 @@
 // The calls that C, C++ and Rust programs link: each is one call of the proved core, with the same definition in its contract, and counts on nothing.
-// Names, parameter order and widths are fixed: programs that were compiled against one version link against the next.
+// Names, parameter order and widths are fixed: a call stays as it is, or goes by a change request, and then no program that names it links.
 
 use hop_ask::Answer;
+use hop_ask::RouteAnswer;
 use hop_cells::size;
 use hop_core::PassAnswer;
 use hop_core::RunAnswer;
@@ -21,10 +22,10 @@ ghost use Rattle.hop_rule.specs.Worth as worth;
 ghost use Rattle.hop_rule.specs.Why as why;
 ghost use Rattle.hop_core.specs.Answers as core;
 ghost use Rattle.hop_core.specs.Answers.{Told, passed};
-ghost use Rattle.hop_ask.specs.Answers.{asked};
+ghost use Rattle.hop_ask.specs.Answers.{asked, directed};
 ghost use Rattle.hop_why.specs.Answers.{explained};
 ghost use Rattle.hop_records.specs.Writing.{wrote, wroteEvent};
-ghost use Rattle.hop_c.specs.Edge.{sizeOf, answer, ran, Answered, Ran, Wrote, Worth, whyReason, Why, event, reading, Read};
+ghost use Rattle.hop_c.specs.Edge.{sizeOf, answer, ran, way, Answered, Ran, Wrote, Worth, whyReason, Why, event, reading, Read};
 
 // A number, and one answer.
 #[repr(C)]
@@ -39,6 +40,14 @@ pub struct HopRan {
     pub code: u32,
     pub passes: u32,
     pub deliveries: u32,
+}
+
+// A way to a destination: its hops, and the neighbour to send through.
+#[repr(C)]
+pub struct HopWay {
+    pub code: u32,
+    pub distance: u32,
+    pub downstream: u32,
 }
 
 // An event that was read; kind 0 at the plain end and at a refusal.
@@ -90,6 +99,23 @@ fn plain_run(a: RunAnswer) -> HopRan
             code: c,
             passes: 0,
             deliveries: 0,
+        },
+    }
+}
+
+fn plain_route(a: RouteAnswer) -> HopWay
+    ensures { λ r. ⌜ r ≡ way (directed a []) ⌝ }
+{
+    match a {
+        RouteAnswer::Way(d, x) => HopWay {
+            code: 0,
+            distance: d,
+            downstream: x,
+        },
+        RouteAnswer::Refused(c) => HopWay {
+            code: c,
+            distance: 0,
+            downstream: 0,
         },
     }
 }
@@ -223,17 +249,10 @@ pub extern "C" fn hop_run(state: &mut [u8], allowance: u8) -> HopRan
 
 // The questions.
 #[no_mangle]
-pub extern "C" fn hop_distance(state: &[u8], node: usize, destination: usize) -> HopAnswer
-    ensures { λ r. ⌜ r ≡ answer (outcome (call.distance node destination) (now (state .entry)) []) ⌝ }
+pub extern "C" fn hop_route(state: &[u8], node: usize, destination: usize) -> HopWay
+    ensures { λ r. ⌜ r ≡ way (outcome (call.route node destination) (now (state .entry)) []) ⌝ }
 {
-    plain_answer(hop_ask::distance(state, node, destination))
-}
-
-#[no_mangle]
-pub extern "C" fn hop_downstream(state: &[u8], node: usize, destination: usize) -> HopAnswer
-    ensures { λ r. ⌜ r ≡ answer (outcome (call.downstream node destination) (now (state .entry)) []) ⌝ }
-{
-    plain_answer(hop_ask::downstream(state, node, destination))
+    plain_route(hop_ask::route(state, node, destination))
 }
 
 #[no_mangle]

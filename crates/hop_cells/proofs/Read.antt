@@ -3,7 +3,7 @@ use mathlib.Core.Path.{_≡_, sym, ap, _∙_}
 use mathlib.Core.List.{List}
 use Prim.Native.Nat.{ℕ}
 use lib.ListN.{length}
-use Rattle.hop_rule.specs.declared.Table.the-variants.{Links, Distances, Downstreams, Lengths}
+use Rattle.hop_rule.specs.declared.Table.the-variants.{Links, Lengths}
 use Rattle.hop_rule.specs.Stored.{nodes, flat, readAs, read}
 use Rattle.hop_laws.proofs.Words.{length-listed}
 use Rattle.hop_cells.specs.Cells.{get, get2}
@@ -12,14 +12,6 @@ module _ (s : List ℕ) {n : ℕ} (claim : n ≡ nodes s) (a b : ℕ) where
   pub link-read : get2 n Links a b s ≡ read s .link a b
   unfolding get flat readAs
   link-read = ap (λ m. readAs m s .link a b) claim
-
-  pub distance-read : get2 n Distances a b s ≡ read s .distance a b
-  unfolding get flat readAs
-  distance-read = ap (λ m. readAs m s .distance a b) claim
-
-  pub downstream-read : get2 n Downstreams a b s ≡ read s .downstream a b
-  unfolding get flat readAs
-  downstream-read = ap (λ m. readAs m s .downstream a b) claim
 
   -- A queue is as long as its length byte says.
   pub length-read : get2 n Lengths a b s ≡ length (read s .queue a b)

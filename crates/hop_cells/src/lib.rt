@@ -4,9 +4,10 @@ use hop_rule::Table;
 ghost use mathlib.Core.Path.{_≡_};
 ghost use Prim.Native.Nat.{_+_, _*_, _<_, _≤_, min};
 ghost use lib.ListN.{length};
+ghost use Rattle.hop_rule.specs.Route as question;
 ghost use Rattle.hop_rule.specs.Stored as stored;
 ghost use Rattle.hop_cells.specs.Cells as cell;
-ghost use Rattle.hop_cells.specs.Cells.{Room, cells};
+ghost use Rattle.hop_cells.specs.Cells.{Room, cells, Reads};
 
 pub fn wide(x: u8) -> usize
     ensures { λ r. ⌜ (r ≡ x) × (r < 256) ⌝ }
@@ -115,6 +116,22 @@ pub fn put2(s: &mut [u8], n: usize, t: Table, a: usize, b: usize, x: u8)
     ensures { λ r. ⌜ now (s .exit) ≡ cell.put2 n t a b x (now (s .entry)) ⌝ }
 {
     put(s, n, t, pair(n, a, b), x);
+}
+
+// What a node has for a destination, hops and direction read at once (02, R-4).
+pub struct Way {
+    pub distance: usize,
+    pub downstream: usize,
+}
+
+pub fn route(s: &[u8], n: usize, u: usize, v: usize) -> Way
+    requires { ⌜ Room n (now s) × (u < n) × (v < n) ⌝ }
+    ensures { λ r. ⌜ Reads r (question.route (stored.readAs n (now (s .entry))) u v) ⌝ }
+{
+    Way {
+        distance: get2(s, n, Table::Distances, u, v),
+        downstream: get2(s, n, Table::Downstreams, u, v),
+    }
 }
 
 // And of a block of n³.

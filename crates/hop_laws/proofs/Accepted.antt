@@ -12,7 +12,7 @@ use Rattle.hop_rule.specs.State.{State}
 use Rattle.hop_rule.specs.Rule.{total}
 use Rattle.hop_rule.specs.Stored.{size, stored, nodes, readAs, read}
 use Rattle.hop_rule.specs.Sound.{Sound}
-use Rattle.hop_rule.specs.Calls.{check, distance, downstream, queueLength, totalQueued, Refusal, judge, empty, badCount, short, notSound, noNode, oneNode, onState, refusals, answerAt, done, outcome}
+use Rattle.hop_rule.specs.Calls.{check, route, queueLength, totalQueued, Refusal, judge, empty, badCount, short, notSound, noNode, oneNode, onState, refusals, answerAt, answered, done, outcome}
 use Rattle.hop_laws.specs.Fine.{Fine}
 use Rattle.hop_laws.proofs.Sound.{sound-bytes-tells}
 use Rattle.hop_laws.proofs.Stored.{nodes-stored, length-stored}
@@ -64,13 +64,9 @@ module _ (s : List ℕ) (f : Fine s) where
   unfolding refusals done
   fine-total = ap (answerAt 0) (outcome-done totalQueued s [] fine-accepts)
 
-  pub fine-distance : (u v : ℕ) → u < nodes s → v < nodes s → answerAt 0 (outcome (distance u v) s []) ≡ read s .distance u v
+  pub fine-route : (u v : ℕ) → u < nodes s → v < nodes s → outcome (route u v) s [] ≡ answered (read s .distance u v ∷ read s .downstream u v ∷ []) s []
   unfolding refusals done judge
-  fine-distance u v lu lv = ap (answerAt 0) (outcome-done (distance u v) s [] (fine-nodes u v [] lu lv))
-
-  pub fine-downstream : (u v : ℕ) → u < nodes s → v < nodes s → answerAt 0 (outcome (downstream u v) s []) ≡ read s .downstream u v
-  unfolding refusals done judge
-  fine-downstream u v lu lv = ap (answerAt 0) (outcome-done (downstream u v) s [] (fine-nodes u v [] lu lv))
+  fine-route u v lu lv = outcome-done (route u v) s [] (fine-nodes u v [] lu lv)
 
   -- A queue's length is answered for two nodes, and for no others. Of a node with itself nothing waits, so that the answer 0 is right there too.
   length-known : (w u : ℕ) → 0 < answerAt 0 (outcome (queueLength w u) s []) → (w < nodes s) × (u < nodes s) × (w ≢ u)

@@ -12,7 +12,7 @@ use borrow.Author.Tests.{eqb-false, ltb-false, not-false}
 use Rattle.hop_rule.specs.Words.{if_then_else_}
 use Rattle.hop_rule.specs.Stored.{size, nodes}
 use Rattle.hop_rule.specs.Sound.{isSoundBytes}
-use Rattle.hop_rule.specs.Calls.{Call, make, check, up, down, deliver, pass, run, distance, downstream, queueLength, totalQueued, status, writeEvent, Refusal, judge, empty, badCount, short, notSound, onState, refusals, Outcome, answerAt, refused, done, outcome}
+use Rattle.hop_rule.specs.Calls.{Call, make, check, up, down, deliver, pass, run, route, queueLength, totalQueued, status, writeEvent, Refusal, judge, empty, badCount, short, notSound, onState, refusals, Outcome, answerAt, refused, done, outcome}
 use Rattle.hop_laws.specs.Fine.{Fine}
 use Rattle.hop_laws.proofs.Tests.{Tells, tells-false, tells-not-so, tells-eq, tells-lt, tells-or, choose-so, choose-else}
 use Rattle.hop_laws.proofs.Sound.{sound-bytes-tells}
@@ -97,8 +97,7 @@ module _ (c : Call) (s out : List ℕ) where
         | deliver w u ↦ refl
         | pass ↦ refl
         | run k ↦ refl
-        | distance u v ↦ refl
-        | downstream u v ↦ refl
+        | route u v ↦ refl
         | queueLength w u ↦ refl
         | totalQueued ↦ refl
         | status u ↦ refl

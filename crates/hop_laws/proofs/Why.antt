@@ -6,8 +6,8 @@ use Prim.Native.Nat.{ℕ, zero, suc, _≤_, _<_}
 use native.Mathlib.Omega.{arith}
 use lib.ListN.{length}
 use Rattle.hop_rule.specs.State.{State}
+use Rattle.hop_rule.specs.Route.{routed}
 use Rattle.hop_rule.specs.Calls.{judge}
-use Rattle.hop_rule.specs.Worth.{routed}
 use Rattle.hop_rule.specs.Why.{along, joinedTo, path, set, reason, whyRefusals, Explained, whyDone, why}
 use Rattle.hop_laws.proofs.Tests.{tells-eq, tells-lt, choose-so, choose-else}
 use Rattle.hop_laws.proofs.Words.{those-most}
@@ -31,7 +31,7 @@ module _ (s : State) where
 
   pub length-joined-to : (u : ℕ) → length (joinedTo s u) ≤ s .n
   unfolding joinedTo
-  length-joined-to u = those-most (routed (s .n) (s .distance) u) (s .n)
+  length-joined-to u = those-most (λ v. routed (s .n) (s .distance u v)) (s .n)
 
   pub reason-path : (u v : ℕ) → s .distance u v < s .n → reason s u v ≡ path (along s u v (s .distance u v))
   unfolding reason

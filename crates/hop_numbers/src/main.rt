@@ -1,6 +1,7 @@
 // Document 01's numbers that are run and compared, and not proved one by one: the square at rest; all 780 links of 40 up, nothing delivered; a line of 40 to rest.
 
 use hop_ask::Answer;
+use hop_ask::RouteAnswer;
 use hop_core::RunAnswer;
 ghost use Prim.Native.Nat.{_<_};
 
@@ -10,28 +11,38 @@ fn print(x: u32, ends: &[u8]) {
     io::write_all(1, ends);
 }
 
-// The value of an answer; a refusal shows as its number behind a minus sign.
+// Two numbers, as a run and a route have them.
+fn print_two(x: u32, y: u32, ends: &[u8]) {
+    print(x, b" ");
+    print(y, ends);
+}
+
+// A refusal shows as its number behind a minus sign.
+fn print_refusal(c: u32, ends: &[u8]) {
+    io::write_all(1, b"-");
+    print(c, ends);
+}
+
 fn print_answer(a: Answer, ends: &[u8]) {
     match a {
         Answer::Value(x) => print(x, ends),
-        Answer::Refused(c) => {
-            io::write_all(1, b"-");
-            print(c, ends);
-        }
+        Answer::Refused(c) => print_refusal(c, ends),
     }
 }
 
 // The passes made and the entries delivered.
 fn print_run(s: &mut [u8]) {
     match hop_core::run(s, 255) {
-        RunAnswer::Made(passes, deliveries) => {
-            print(passes, b" ");
-            print(deliveries, b"\n");
-        }
-        RunAnswer::Refused(c) => {
-            io::write_all(1, b"-");
-            print(c, b"\n");
-        }
+        RunAnswer::Made(passes, deliveries) => print_two(passes, deliveries, b"\n"),
+        RunAnswer::Refused(c) => print_refusal(c, b"\n"),
+    }
+}
+
+// The hops and the neighbour to send through.
+fn print_route(s: &[u8], u: usize, v: usize, ends: &[u8]) {
+    match hop_ask::route(s, u, v) {
+        RouteAnswer::Way(distance, downstream) => print_two(distance, downstream, ends),
+        RouteAnswer::Refused(c) => print_refusal(c, ends),
     }
 }
 
@@ -51,8 +62,7 @@ fn link_square(s: &mut [u8]) {
 fn square(s: &mut [u8]) {
     link_square(s);
     print_run(s);
-    print_answer(hop_ask::distance(s, 0, 3), b" ");
-    print_answer(hop_ask::downstream(s, 0, 3), b"\n");
+    print_route(s, 0, 3, b"\n");
 }
 
 // a is linked to each higher number below 40.
@@ -121,10 +131,8 @@ fn line(s: &mut [u8]) {
     hop_core::make(s, 40);
     link_line(s);
     print_run(s);
-    print_answer(hop_ask::distance(s, 0, 39), b" ");
-    print_answer(hop_ask::downstream(s, 0, 39), b" ");
-    print_answer(hop_ask::distance(s, 39, 0), b" ");
-    print_answer(hop_ask::downstream(s, 39, 0), b"\n");
+    print_route(s, 0, 39, b" ");
+    print_route(s, 39, 0, b"\n");
 }
 
 fn main() {

@@ -6,10 +6,11 @@ use native.Mathlib.Numerals.{add-one}
 use native.Mathlib.Decide.{ℕ-discrete}
 use native.Mathlib.Omega.{arith}
 use lib.ListN.{length, length-append}
-use Rattle.hop_rule.specs.declared.Table.the-variants.{Distances, Downstreams}
 use Rattle.hop_rule.specs.Words.{joined}
-use Rattle.hop_rule.specs.Stored.{flat, readAs}
-use Rattle.hop_cells.specs.Cells.{get, get2}
+use Rattle.hop_rule.specs.Route.{route}
+use Rattle.hop_rule.specs.Stored.{readAs}
+use Rattle.hop_cells.specs.declared.Way.{Way}
+use Rattle.hop_cells.specs.Cells.{Reads}
 use Rattle.hop_text.specs.Text.{routeLine}
 use Rattle.hop_text.specs.Writing.{Ends, Wrote}
 use Rattle.hop_text.proofs.Writing.{wrote-nothing, wrote-both}
@@ -41,10 +42,10 @@ module _ (f : ℕ → List ℕ) where
 -- ---- the lines of the state that bytes hold
 
 module _ (n : ℕ) (s : List ℕ) where
-  -- The line of a pair, from the two bytes that were read.
-  pub route-read : (u v : ℕ) {d w : ℕ} → d ≡ get2 n Distances u v s → w ≡ get2 n Downstreams u v s → routeLine u v d w ≡ routeAt (readAs n s) u v
-  unfolding routeAt readAs flat get
-  route-read u v h k = rw (h, k)
+  -- The line of a pair, from the way that was read.
+  pub route-read : (u v : ℕ) {way : Way} → Reads way (route (readAs n s) u v) → routeLine u v (way .distance) (way .downstream) ≡ routeAt (readAs n s) u v
+  unfolding routeAt
+  route-read u v h = rw (h .distance, h .downstream)
 
   pub from-lines : (u : ℕ) → routesFrom (readAs n s) u ≡ joined n (routeAt (readAs n s) u)
   unfolding routesFrom readAs

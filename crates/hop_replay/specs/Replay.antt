@@ -1,4 +1,4 @@
--- 01, 'The program': from a script of records to the text that is printed. Uses hop_text's Text for the lines, and hop_rule's Records and Calls.
+-- 01, 'The program': from a script of records to the text that is printed. Uses hop_text's Text for the lines, and hop_rule's Route, Records and Calls.
 use mathlib.Core.List.{List, [], _++_}
 use Prim.Native.Nat.{ℕ, zero, suc}
 use lib.Dec.{eqb}
@@ -8,6 +8,7 @@ use Rattle.hop_rule.specs.declared.Event.the-variants.{Make, Up, Down, Deliver,
 use Rattle.hop_rule.specs.declared.Reading.the-variants.{Found, End, Refused}
 use Rattle.hop_rule.specs.Words.{if_then_else_, joined}
 use Rattle.hop_rule.specs.State.{State}
+use Rattle.hop_rule.specs.Route.{route}
 use Rattle.hop_rule.specs.Stored.{read}
 use Rattle.hop_rule.specs.Records.{kindOf, readEvent}
 use Rattle.hop_rule.specs.Calls.{Call, make, check, up, down, deliver, pass, totalQueued, answerAt, outcome}
@@ -48,7 +49,7 @@ events (suc k) script p ordinal s =
 
 -- Every pair, ascending: the line of one pair, those of one node, and those of every node.
 unfoldable pub routeAt : State → ℕ → ℕ → List ℕ
-routeAt s u v = routeLine u v (s .distance u v) (s .downstream u v)
+routeAt s u v = let way = route s u v in routeLine u v (way .distance) (way .downstream)
 
 unfoldable pub routesFrom : State → ℕ → List ℕ
 routesFrom s u = joined (s .n) (routeAt s u)

@@ -2,7 +2,7 @@
 
 use hop_ask::Answer;
 use hop_ask::total_queued;
-use hop_cells::get2;
+use hop_cells::route;
 use hop_core::PassAnswer;
 use hop_judge::Judged;
 use hop_judge::judge_state;
@@ -10,7 +10,6 @@ use hop_reader::read_from;
 use hop_records::numbers_of;
 use hop_rule::Event;
 use hop_rule::Reading;
-use hop_rule::Table;
 use hop_text::put_event;
 use hop_text::put_header;
 use hop_text::put_route;
@@ -107,9 +106,8 @@ fn put_routes_from(state: &[u8], n: usize, u: usize, out: &mut [u8], at: usize) 
     let mut next = at;
     let mut v = 0;
     while v < n {
-        let distance = get2(state, n, Table::Distances, u, v);
-        let downstream = get2(state, n, Table::Downstreams, u, v);
-        next = put_route(out, next, u, v, distance, downstream);
+        let way = route(state, n, u, v);
+        next = put_route(out, next, u, v, way.distance, way.downstream);
         v += 1;
     }
     next

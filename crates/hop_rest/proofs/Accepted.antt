@@ -9,7 +9,7 @@ use Rattle.hop_rule.specs.State.{State}
 use Rattle.hop_rule.specs.Rule.{fresh, linkUp, made}
 use Rattle.hop_rule.specs.Stored.{nodes, readAs, read}
 use Rattle.hop_rule.specs.Sound.{Sound}
-use Rattle.hop_rule.specs.Calls.{Call, make, check, up, down, deliver, pass, run, distance, downstream, queueLength, totalQueued, status, writeEvent, badCount, isUp, judge, refusals, restored, done, outcome}
+use Rattle.hop_rule.specs.Calls.{Call, make, check, up, down, deliver, pass, run, route, queueLength, totalQueued, status, writeEvent, badCount, isUp, judge, refusals, restored, done, outcome}
 use Rattle.hop_laws.specs.Fine.{Fine}
 use Rattle.hop_laws.proofs.Fresh.{fresh-sound}
 use Rattle.hop_laws.proofs.Calls.{judge-none, good-count, outcome-done, outcome-refused, outcome-number}
@@ -42,8 +42,7 @@ module _ (s : List ℕ) (f : Fine s) where
   done-fine pass out z = let (o, e) = pass-keeps-sound (read s) sound in next-fine o e
   done-fine (run k) out z = let (o, e) = passes-keeps-sound (read s) (made (read s) k) sound in next-fine o e
   done-fine check out z = f
-  done-fine (distance u v) out z = f
-  done-fine (downstream u v) out z = f
+  done-fine (route u v) out z = f
   done-fine (queueLength w u) out z = f
   done-fine totalQueued out z = f
   done-fine (status u) out z = f

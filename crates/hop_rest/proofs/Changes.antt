@@ -10,7 +10,8 @@ use lib.Dec.{ltb, le→leb, lt→ltb}
 use lib.IntN.{ℤ, pos, natAbs, _-ℤ_}
 use lib.Signed.{_≤ℤ_, _<ℤ_, leZ-yes, ltZ-yes}
 use borrow.Author.Tests.{lt-ltb, le-ltb}
-use Rattle.hop_rule.specs.Worth.{routed, over, lost, hops, change}
+use Rattle.hop_rule.specs.Route.{routed}
+use Rattle.hop_rule.specs.Worth.{over, lost, hops, change}
 use Rattle.hop_laws.proofs.Tests.{Tells, tells-lt, tells-not, tells-and, tells-not-so, choose-so, choose-else}
 use Rattle.hop_laws.proofs.Words.{sum-same, sum-less, sum-below, sum-at, sum-most, sum-zero}
 use Rattle.hop_rest.specs.Worth.{parted}
@@ -84,10 +85,10 @@ difference-most a (suc b) c l k = either (λ z. natAbs z ≤ c) (ltb a (suc b)) 
 -- ---- two tables
 
 module _ (n : ℕ) (d e : ℕ → ℕ → ℕ) where
-  tells-lost : (u v : ℕ) → Tells (routed n d u v && not (routed n e u v)) ((d u v < n) × (e u v < n → ⊥))
+  tells-lost : (u v : ℕ) → Tells (routed n (d u v) && not (routed n (e u v))) ((d u v < n) × (e u v < n → ⊥))
   tells-lost u v = tells-and (tells-lt (d u v) n) (tells-not (tells-lt (e u v) n))
 
-  tells-both : (u v : ℕ) → Tells (routed n d u v && routed n e u v) ((d u v < n) × (e u v < n))
+  tells-both : (u v : ℕ) → Tells (routed n (d u v) && routed n (e u v)) ((d u v < n) × (e u v < n))
   tells-both u v = tells-and (tells-lt (d u v) n) (tells-lt (e u v) n)
 
   -- One pair is enough.
@@ -116,14 +117,14 @@ no-longer h u v lu lv l k = h u v lu lv
 
 module _ (n : ℕ) (d e : ℕ → ℕ → ℕ) where
   -- Lost looks at the routes of both tables, and at nothing else.
-  pub lost-parted : (before after : ℕ → ℕ → Bool) → ((u v : ℕ) → u < n → v < n → routed n d u v ≡ before u v) → ((u v : ℕ) → u < n → v < n → routed n e u v ≡ after u v)
+  pub lost-parted : (before after : ℕ → ℕ → Bool) → ((u v : ℕ) → u < n → v < n → routed n (d u v) ≡ before u v) → ((u v : ℕ) → u < n → v < n → routed n (e u v) ≡ after u v)
       → lost n d e ≡ parted n before after
   unfolding lost
   lost-parted before after h k = over-same n _ _ (λ u v lu lv. rw (h u v lu lv, k u v lu lv))
 
   pub lost-same : (d′ e′ : ℕ → ℕ → ℕ) → Agree n d d′ → Agree n e e′ → lost n d e ≡ lost n d′ e′
   unfolding lost
-  lost-same d′ e′ h k = lost-parted (routed n d′) (routed n e′) (λ u v lu lv. rw (h u v lu lv)) (λ u v lu lv. rw (k u v lu lv))
+  lost-same d′ e′ h k = lost-parted (λ u v. routed n (d′ u v)) (λ u v. routed n (e′ u v)) (λ u v lu lv. rw (h u v lu lv)) (λ u v lu lv. rw (k u v lu lv))
 
   hops-same : (d′ e′ : ℕ → ℕ → ℕ) → Agree n d d′ → Agree n e e′ → hops n d e ≡ hops n d′ e′
   unfolding hops
@@ -142,7 +143,7 @@ module _ (n : ℕ) (d e : ℕ → ℕ → ℕ) where
   lost-none h = over-zero n _ (λ u v lu lv. choose-else (tells-lost n d e u v) _ _ (λ p. p .1 (h u v lu lv (p .0))))
 
   -- What a pair adds to the hops.
-  pair-less : NoLonger n d e → (u v : ℕ) → u < n → v < n → cond (routed n e u v && routed n d u v) (e u v) 0 ≤ cond (routed n d u v && routed n e u v) (d u v) 0
+  pair-less : NoLonger n d e → (u v : ℕ) → u < n → v < n → cond (routed n (e u v) && routed n (d u v)) (e u v) 0 ≤ cond (routed n (d u v) && routed n (e u v)) (d u v) 0
   pair-less h u v lu lv = cond-less (tells-both n e d u v) (tells-both n d e u v) (λ p. (p .1, p .0)) _ _ (λ p. h u v lu lv (p .1) (p .0))
 
   pub hops-less : NoLonger n d e → hops n e d ≤ hops n d e

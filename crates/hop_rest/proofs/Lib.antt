@@ -27,5 +27,6 @@ pub mod WhyCall
 pub mod Top
 pub mod Attained
 pub mod OnBytes
+pub mod Route
 pub mod Delivering
 pub mod Accepted

@@ -8,16 +8,17 @@ use Rattle.hop_rule.specs.State.{State}
 use Rattle.hop_rule.specs.Rule.{passes, made}
 use Rattle.hop_rule.specs.Stored.{size, nodes, readAs, read}
 use Rattle.hop_rule.specs.Sound.{Sound}
-use Rattle.hop_rule.specs.Calls.{check, run, distance, downstream, refusals, answerAt, restored, done, outcome}
+use Rattle.hop_rule.specs.Route.{Way, route}
+use Rattle.hop_rule.specs.Calls.{check, run, refusals, answerAt, restored, done, outcome}
 use Rattle.hop_laws.specs.Same.{Same}
 use Rattle.hop_laws.specs.Fine.{Fine}
 use Rattle.hop_laws.proofs.Stored.{nodes-stored}
 use Rattle.hop_laws.proofs.Read.{read-stored}
 use Rattle.hop_laws.proofs.Calls.{outcome-done}
-use Rattle.hop_laws.proofs.Accepted.{accepted-fine, fine-accepts, fine-accepted, fine-total, fine-distance, fine-downstream, stored-fine}
+use Rattle.hop_laws.proofs.Accepted.{accepted-fine, fine-accepts, fine-accepted, fine-total, fine-route, stored-fine}
 use Rattle.hop_rest.specs.Walks.{HopCount, Nearer}
 use Rattle.hop_rest.specs.Rest.{Settled}
-use Rattle.hop_rest.specs.OnBytes.{asked, SettledBytes, RunSettles}
+use Rattle.hop_rest.specs.OnBytes.{askedRoute, SettledBytes, RunSettles}
 use Rattle.hop_rest.specs.Delivered.{Over}
 use Rattle.hop_rest.proofs.Settling.{rest-total, passes-over}
 use Rattle.hop_rest.proofs.Run.{made-most}
@@ -39,15 +40,12 @@ module _ (s : List ℕ) (f : Fine s) (t : State) (o : Over (read s) t) where
   pub over-fine : Fine (restored t s)
   over-fine = stored-fine t (o .sound) (drop (size (t .n)) s) (omega (arith, over-nodes, f .least)) (omega (arith, over-nodes, f .most))
 
-  -- What the calls read there is the state's own.
-  module _ (u v : ℕ) (lu : u < nodes s) (lv : v < nodes s) where
-    asked-distance : asked (distance u v) (restored t s) ≡ t .distance u v
-    unfolding readAs
-    asked-distance = fine-distance _ over-fine u v (rw over-head lu) (rw over-head lv) ∙ over-read .distance u v (rw over-head lu) (rw over-head lv)
-
-    asked-downstream : asked (downstream u v) (restored t s) ≡ t .downstream u v
-    unfolding readAs
-    asked-downstream = fine-downstream _ over-fine u v (rw over-head lu) (rw over-head lv) ∙ over-read .downstream u v (rw over-head lu) (rw over-head lv)
+  -- What is asked for there is the state's own.
+  asked-there : (u v : ℕ) → u < nodes s → v < nodes s → askedRoute u v (restored t s) ≡ route t u v
+  unfolding readAs
+  asked-there u v lu lv =
+      let (iu, iv) : (u < nodes (restored t s)) × (v < nodes (restored t s)) = (rw over-head lu, rw over-head lv) in
+      rw (fine-route _ over-fine u v iu iv, over-read .distance u v iu iv, over-read .downstream u v iu iv)
 
   -- So a state that has settled is a buffer that has.
   pub settled-bytes : Settled (read s) t → SettledBytes s (restored t s)
@@ -56,10 +54,10 @@ module _ (s : List ℕ) (f : Fine s) (t : State) (o : Over (read s) t) where
     accepted = fine-accepted _ over-fine;
     same-nodes = over-head;
     nothing-queued = fine-total _ over-fine ∙ rest-total _ (λ w u lw lu. over-read .queue w u lw lu ∙ h .empty w u (omega (arith, over-head, over-nodes)) (omega (arith, over-head, over-nodes)));
-    distances = λ u v lu lv. subst (HopCount (read s) u v) (sym (asked-distance u v lu lv)) (h .distances u v lu lv);
-    own = λ u lu. asked-downstream u u lu lu ∙ h .own u lu;
-    none = λ u v lu lv p. asked-downstream u v lu lv ∙ h .none u v lu lv p;
-    next = λ u v d lu lv ld p. subst (Nearer (read s) u v d) (sym (asked-downstream u v lu lv)) (h .next u v d lu lv ld p);
+    distances = λ u v lu lv. subst (HopCount (read s) u v) (sym (ap (λ (w : Way). w .distance) (asked-there u v lu lv))) (h .distances u v lu lv);
+    own = λ u lu. ap (λ (w : Way). w .downstream) (asked-there u u lu lu) ∙ h .own u lu;
+    none = λ u v lu lv p. ap (λ (w : Way). w .downstream) (asked-there u v lu lv) ∙ h .none u v lu lv p;
+    next = λ u v d lu lv ld p. subst (Nearer (read s) u v d) (sym (ap (λ (w : Way). w .downstream) (asked-there u v lu lv))) (h .next u v d lu lv ld p);
   }
 
 -- ---- the run

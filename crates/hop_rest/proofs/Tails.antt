@@ -14,7 +14,7 @@ use Rattle.hop_rule.specs.Rule as rule
 use Rattle.hop_rule.specs.Stored.{size, stored, nodes, readAs, read}
 use Rattle.hop_rule.specs.Sound.{SoundBytes}
 use Rattle.hop_rule.specs.Records.{statusRecord}
-use Rattle.hop_rule.specs.Calls.{Call, make, check, up, down, deliver, pass, run, distance, downstream, queueLength, totalQueued, status, writeEvent, Refusal, judge, badCount, noNode, oneNode, isUp, isDown, nothingWaits, onState, refusals, Outcome, refused, answered, changed, done, outcome}
+use Rattle.hop_rule.specs.Calls.{Call, make, check, up, down, deliver, pass, run, route, queueLength, totalQueued, status, writeEvent, Refusal, judge, badCount, noNode, oneNode, isUp, isDown, nothingWaits, onState, refusals, Outcome, refused, answered, changed, done, outcome}
 use Rattle.hop_laws.specs.Same.{Same}
 use Rattle.hop_laws.specs.Fine.{Fine}
 use Rattle.hop_laws.proofs.Stored.{length-stored}
@@ -181,14 +181,14 @@ module _ (f r out : List ℕ) (room : size (nodes f) ≤ length f) where
       (ap (λ x. m ∷ x ∷ []) (delivered-same (h .state) e m))))
 
   -- A question about two nodes, answered from the state.
-  asked-alike : (c : Call) (a b : ℕ) (more : List Refusal) (answer : State → ℕ) → refusals c (f ++ r) out ≡ onState (f ++ r) (noNode (f ++ r) a ∷ noNode (f ++ r) b ∷ more) → refusals c f out ≡ onState f (noNode f a ∷ noNode f b ∷ more)
-      → ((s : List ℕ) → done c s out ≡ answered (answer (read s) ∷ []) s out)
-      → ((s t : State) → Same s t → a < s .n → b < s .n → answer s ≡ answer t)
+  asked-alike : (c : Call) (a b : ℕ) (more : List Refusal) (answers : State → List ℕ) → refusals c (f ++ r) out ≡ onState (f ++ r) (noNode (f ++ r) a ∷ noNode (f ++ r) b ∷ more) → refusals c f out ≡ onState f (noNode f a ∷ noNode f b ∷ more)
+      → ((s : List ℕ) → done c s out ≡ answered (answers (read s)) s out)
+      → ((s t : State) → Same s t → a < s .n → b < s .n → answers s ≡ answers t)
       → Alike c f r out
   unfolding readAs
-  asked-alike c a b more answer e i d same = state-alike c _ _ e i (λ h. nodes-judged f r room a b more more (λ la lb. refl)) (λ h z.
+  asked-alike c a b more answers e i d same = state-alike c _ _ e i (λ h. nodes-judged f r room a b more more (λ la lb. refl)) (λ h z.
       let l = nodes-inside f a b more z in (
-        d (f ++ r) ∙ ap (λ x. answered (x ∷ []) (f ++ r) out) (sym (same _ _ (read-same f r room h) (l .0) (l .1))) ∙ ap (λ (o : Outcome). followed o r) (sym (d f)),
+        d (f ++ r) ∙ ap (λ xs. answered xs (f ++ r) out) (sym (same _ _ (read-same f r room h) (l .0) (l .1))) ∙ ap (λ (o : Outcome). followed o r) (sym (d f)),
         ap (λ (o : Outcome). length (o .bytes)) (d f),
       ))
 
@@ -216,9 +216,8 @@ alike (down a b) f r out room = down-alike f r out room a b
 alike (deliver w u) f r out room = deliver-alike f r out room w u
 alike pass f r out room = pass-alike f r out room
 alike (run k) f r out room = run-alike f r out room k
-alike (distance u v) f r out room = asked-alike f r out room (distance u v) u v [] (λ s. s .distance u v) refl refl (λ s. refl) (λ s t e lu lv. e .distance u v lu lv)
-alike (downstream u v) f r out room = asked-alike f r out room (downstream u v) u v [] (λ s. s .downstream u v) refl refl (λ s. refl) (λ s t e lu lv. e .downstream u v lu lv)
-alike (queueLength w u) f r out room = asked-alike f r out room (queueLength w u) w u (oneNode w u ∷ []) (λ s. length (s .queue w u)) refl refl (λ s. refl) (λ s t e lw lu. ap length (e .queue w u lw lu))
+alike (route u v) f r out room = asked-alike f r out room (route u v) u v [] (λ s. s .distance u v ∷ s .downstream u v ∷ []) refl refl (λ s. refl) (λ s t e lu lv. rw (e .distance u v lu lv, e .downstream u v lu lv))
+alike (queueLength w u) f r out room = asked-alike f r out room (queueLength w u) w u (oneNode w u ∷ []) (λ s. length (s .queue w u) ∷ []) refl refl (λ s. refl) (λ s t e lw lu. rw (e .queue w u lw lu))
 alike totalQueued f r out room = total-alike f r out room
 alike (status u) f r out room = status-alike f r out room u
 alike (writeEvent e) f r out room = write-alike e f r out

@@ -5,6 +5,7 @@ use Rattle.hop_rest.specs.Rest.{EverySoundStateRests}
 use Rattle.hop_rest.specs.OnBytes.{EveryRunSettles, EveryDeliverySettles}
 use Rattle.hop_rest.specs.Frame.{EveryDeliveryRewritesOnly}
 use Rattle.hop_rest.specs.Accepted.{AcceptedStays, MadeAccepted}
+use Rattle.hop_rest.specs.Route.{EveryRouteTells, RestingRoutesRight, RefusedRouteIs0}
 use Rattle.hop_rest.specs.Tails.{TailsUnread, TwoTailsOneAnswer, MakeReadsNothing}
 use Rattle.hop_rest.specs.Ends.{EitherEndFirst}
 use Rattle.hop_rest.specs.Worth.{EveryLineTells, EveryLineFits, EveryPairHasItsLine, EveryWorthTells, WorthTailUnread}
@@ -14,6 +15,7 @@ use Rattle.hop_rest.proofs.OnBytes as bytes
 use Rattle.hop_rest.proofs.Delivering as bytes-by-deliveries
 use Rattle.hop_rest.proofs.Frame as frame
 use Rattle.hop_rest.proofs.Accepted as accepted
+use Rattle.hop_rest.proofs.Route as route
 use Rattle.hop_rest.proofs.Tails as tails
 use Rattle.hop_rest.proofs.Ends as ends
 use Rattle.hop_rest.proofs.Worth as worth
@@ -45,6 +47,17 @@ accepted-stays = accepted.accepted-stays
 
 pub made-accepted : MadeAccepted
 made-accepted = accepted.made-accepted
+
+-- ---- R-4's answer, at rest or not
+
+pub every-route-tells : EveryRouteTells
+every-route-tells = route.route-tells
+
+pub resting-routes-right : RestingRoutesRight
+resting-routes-right = route.resting-routes-right
+
+pub refused-route-is-0 : RefusedRouteIs0
+refused-route-is-0 = route.refused-route-is-0
 
 -- ---- bytes behind the form
 

@@ -15,7 +15,7 @@ use Rattle.hop_rule.specs.Sound.{Sound}
 use Rattle.hop_rule.specs.Stored.{size, nodes, readAs, read}
 use Rattle.hop_rule.specs.Records.{written}
 use Rattle.hop_rule.specs.Calls.{Refusal, judge, noNode, notAtRest, short}
-use Rattle.hop_rule.specs.Worth.{routed}
+use Rattle.hop_rule.specs.Route.{routed}
 use Rattle.hop_rule.specs.Why.{along, joinedTo, Reason, path, set, reason, kind, shown, beforeList, whyRefusals, Explained, whyDone, why}
 use Rattle.hop_laws.specs.Same.{Same}
 use Rattle.hop_laws.specs.Fine.{Fine}
@@ -92,7 +92,7 @@ module _ {s t : State} (o : Sound s) (rest : AtRest s) (e : Same s t) (u v : ℕ
   unfolding joinedTo
   joinedTo-same =
       those-same (s .n) _ _ (λ x lx. ap (λ (d : ℕ). ltb d (s .n)) (e .distance u x lu lx))
-      ∙ ap (λ m. those m (routed m (t .distance) u)) (e .n)
+      ∙ ap (λ m. those m (λ x. routed m (t .distance u x))) (e .n)
 
   reason-same : reason s u v ≡ reason t u v
   unfolding reason

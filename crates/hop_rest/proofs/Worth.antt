@@ -6,11 +6,11 @@ use Prim.Native.Nat.{ℕ, _*_, _-_, _≤_, _<_}
 use native.Mathlib.Nat.{mul-le-mul, le-trans}
 use native.Mathlib.Decide.{ℕ-discrete}
 use native.Mathlib.Omega.{arith}
-use lib.Dec.{ltb}
 use Rattle.hop_rule.specs.State.{State}
 use Rattle.hop_rule.specs.Rule.{recompute, linkUp, cut, recomputeAll, linkDown, total}
 use Rattle.hop_rule.specs.Sound.{Sound}
-use Rattle.hop_rule.specs.Worth.{turned, trialPasses, trial, routed, lost, gained, line}
+use Rattle.hop_rule.specs.Route.{routed}
+use Rattle.hop_rule.specs.Worth.{turned, trialPasses, trial, tableOf, lost, gained, line}
 use Rattle.hop_laws.proofs.Tests.{tells-eq, tells-same, choose-so, choose-else}
 use Rattle.hop_laws.proofs.Words.{loop-keeps}
 use Rattle.hop_laws.proofs.Rule.{Both, up-link, cut-link}
@@ -106,7 +106,7 @@ line-fits s o few a b ascends inside =
 -- ---- what a line tells of a state that is at rest
 
 -- Whoever tells whether two nodes are joined tells it as their hop count does.
-joins-routed : {g : State} {j : ℕ → ℕ → Bool} {u v d : ℕ} → Joins g j → u < g .n → v < g .n → (n : ℕ) → g .n ≡ n → HopCount g u v d → ltb d n ≡ j u v
+joins-routed : {g : State} {j : ℕ → ℕ → Bool} {u v d : ℕ} → Joins g j → u < g .n → v < g .n → (n : ℕ) → g .n ≡ n → HopCount g u v d → routed n d ≡ j u v
 joins-routed {u = u} {v} joins lu lv n e h =
     rw (← e) (tells-same (hop-count-tells h) (record { shows = joins .only u v lu lv; if-so = λ w. joins .so u v (w .0) lu lv (w .1) }))
 
@@ -118,25 +118,28 @@ module _ (s : State) (o : Sound s) (rest : AtRest s) (few : s .n ≤ 255) (a b :
   bit = o .bits a b (omega arith) inside
 
   -- The tables before and after are those of the hop counts.
-  abbrev after : ℕ → ℕ → ℕ
-  after = trial s a b .distance
+  abbrev before : ℕ → ℕ → ℕ
+  before = tableOf s
 
-  before-counts : HopCounts s (s .distance)
+  abbrev after : ℕ → ℕ → ℕ
+  after = tableOf (trial s a b)
+
+  before-counts : HopCounts s before
   before-counts = rest-hop-count s s (over-self o) rest
 
   after-counts : (u v : ℕ) → u < s .n → v < s .n → HopCount (turned s a b) u v (after u v)
   after-counts u v lu lv = trial-settled s a b o few ascends inside .distances u v (rw nodes lu) (rw nodes lv)
 
-  before-agree : (d : ℕ → ℕ → ℕ) → HopCounts s d → Agree (s .n) (s .distance) d
+  before-agree : (d : ℕ → ℕ → ℕ) → HopCounts s d → Agree (s .n) before d
   before-agree d h u v lu lv = hop-count-same (before-counts u v lu lv) (h u v lu lv)
 
   after-agree : (d : ℕ → ℕ → ℕ) → HopCounts (turned s a b) d → Agree (s .n) after d
   after-agree d h u v lu lv = hop-count-same (after-counts u v lu lv) (h u v (rw nodes lu) (rw nodes lv))
 
-  before-routed : (j : ℕ → ℕ → Bool) → Joins s j → (u v : ℕ) → u < s .n → v < s .n → routed (s .n) (s .distance) u v ≡ j u v
+  before-routed : (j : ℕ → ℕ → Bool) → Joins s j → (u v : ℕ) → u < s .n → v < s .n → routed (s .n) (before u v) ≡ j u v
   before-routed j h u v lu lv = joins-routed h lu lv (s .n) refl (before-counts u v lu lv)
 
-  after-routed : (j : ℕ → ℕ → Bool) → Joins (turned s a b) j → (u v : ℕ) → u < s .n → v < s .n → routed (s .n) after u v ≡ j u v
+  after-routed : (j : ℕ → ℕ → Bool) → Joins (turned s a b) j → (u v : ℕ) → u < s .n → v < s .n → routed (s .n) (after u v) ≡ j u v
   after-routed j h u v lu lv = joins-routed h (rw nodes lu) (rw nodes lv) (s .n) nodes (after-counts u v lu lv)
 
   -- One of the two has the link besides.
@@ -162,23 +165,23 @@ module _ (s : State) (o : Sound s) (rest : AtRest s) (few : s .n ≤ 255) (a b :
     symmetric = o .symmetric;
   }
 
-  away-no-larger : s .link a b ≡ 1 → NoLarger (s .n) after (s .distance)
+  away-no-larger : s .link a b ≡ 1 → NoLarger (s .n) after before
   away-no-larger q = no-larger (away-adds q) after-counts before-counts
 
-  added-no-larger : s .link a b ≢ 1 → NoLarger (s .n) (s .distance) after
+  added-no-larger : s .link a b ≢ 1 → NoLarger (s .n) before after
   added-no-larger f = no-larger (added-adds f) before-counts after-counts
 
-  away-gains-none : s .link a b ≡ 1 → gained (s .n) (s .distance) after ≡ 0
-  away-gains-none q = lost-none (s .n) after (s .distance) (keeps (away-no-larger q))
+  away-gains-none : s .link a b ≡ 1 → gained (s .n) before after ≡ 0
+  away-gains-none q = lost-none (s .n) after before (keeps (away-no-larger q))
 
-  added-loses-none : s .link a b ≢ 1 → lost (s .n) (s .distance) after ≡ 0
-  added-loses-none f = lost-none (s .n) (s .distance) after (keeps (added-no-larger f))
+  added-loses-none : s .link a b ≢ 1 → lost (s .n) before after ≡ 0
+  added-loses-none f = lost-none (s .n) before after (keeps (added-no-larger f))
 
   -- So pairs lose a route only where the link is up, and gain one only where it is not.
-  lost-up : lost (s .n) (s .distance) after ≢ 0 → s .link a b ≡ 1
+  lost-up : lost (s .n) before after ≢ 0 → s .link a b ≡ 1
   lost-up some = elim (ℕ-discrete (s .link a b) 1) [ yes q ↦ q | no f ↦ absurd (some (added-loses-none f)) ]
 
-  gained-down : gained (s .n) (s .distance) after ≢ 0 → s .link a b ≢ 1
+  gained-down : gained (s .n) before after ≢ 0 → s .link a b ≢ 1
   gained-down some q = some (away-gains-none q)
 
   pub line-tells : LineTells s a b
@@ -190,19 +193,19 @@ module _ (s : State) (o : Sound s) (rest : AtRest s) (few : s .n ≤ 255) (a b :
     other-links = λ x y f g. turned-link s a b bit x y .other (λ h. elim h [ inl p ↦ f p | inr p ↦ g p ]);
     settled = trial-settled s a b o few ascends inside;
     before-true = before-counts;
-    lost-true = λ j k h i. lost-parted (s .n) (s .distance) after j k (before-routed j h) (after-routed k i);
-    gained-true = λ j k h i. lost-parted (s .n) after (s .distance) k j (after-routed k i) (before-routed j h);
-    change-true = λ d e h i. change-same (s .n) (s .distance) after d e (before-agree d h) (after-agree e i);
+    lost-true = λ j k h i. lost-parted (s .n) before after j k (before-routed j h) (after-routed k i);
+    gained-true = λ j k h i. lost-parted (s .n) after before k j (after-routed k i) (before-routed j h);
+    change-true = λ d e h i. change-same (s .n) before after d e (before-agree d h) (after-agree e i);
     away-gained = away-gains-none;
     away-no-shorter = away-no-larger;
-    away-change = λ q. change-not-below (s .n) after (s .distance) (no-longer (away-no-larger q));
+    away-change = λ q. change-not-below (s .n) after before (no-longer (away-no-larger q));
     added-lost = added-loses-none;
     added-no-longer = added-no-larger;
-    added-change = λ f. change-not-above (s .n) (s .distance) after (no-longer (added-no-larger f));
-    away-shows = λ q. elim (link-shows (away-adds q) after-counts before-counts) [ inl l ↦ inl l | inr l ↦ inr (change-above (s .n) (s .distance) after l) ];
-    added-shows = λ f. elim (link-shows (added-adds f) before-counts after-counts) [ inl l ↦ inl l | inr l ↦ inr (change-below (s .n) (s .distance) after l) ];
-    lost-alone = λ some. change-none (s .n) (s .distance) after (sym (never-both (away-adds (lost-up some)) after-counts before-counts some));
-    gained-alone = λ some. change-none (s .n) (s .distance) after (never-both (added-adds (gained-down some)) before-counts after-counts some);
+    added-change = λ f. change-not-above (s .n) before after (no-longer (added-no-larger f));
+    away-shows = λ q. elim (link-shows (away-adds q) after-counts before-counts) [ inl l ↦ inl l | inr l ↦ inr (change-above (s .n) before after l) ];
+    added-shows = λ f. elim (link-shows (added-adds f) before-counts after-counts) [ inl l ↦ inl l | inr l ↦ inr (change-below (s .n) before after l) ];
+    lost-alone = λ some. change-none (s .n) before after (sym (never-both (away-adds (lost-up some)) after-counts before-counts some));
+    gained-alone = λ some. change-none (s .n) before after (never-both (added-adds (gained-down some)) before-counts after-counts some);
     lost-keeps = λ some u v lu lv l k. sym (keeps-distance (away-adds (lost-up some)) after-counts before-counts some u v lu lv k l);
     gained-keeps = λ some. keeps-distance (added-adds (gained-down some)) before-counts after-counts some;
     away-only-way = λ q some d w. only-way (away-adds q) after-counts before-counts some (d, w);

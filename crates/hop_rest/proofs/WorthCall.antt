@@ -17,7 +17,7 @@ use Rattle.hop_rule.specs.Stored.{size, nodes, readAs, read}
 use Rattle.hop_rule.specs.Sound.{Sound}
 use Rattle.hop_rule.specs.Records.{written}
 use Rattle.hop_rule.specs.Calls.{check, judge, notAtRest}
-use Rattle.hop_rule.specs.Worth.{turned, trialPasses, trial, lost, gained, change, line, lines, worthRefusals, Valued, worthDone, worth}
+use Rattle.hop_rule.specs.Worth.{turned, trialPasses, trial, tableOf, lost, gained, change, line, lines, worthRefusals, Valued, worthDone, worth}
 use Rattle.hop_laws.specs.Same.{Same}
 use Rattle.hop_laws.specs.Fine.{Fine}
 use Rattle.hop_laws.proofs.Tests.{tells-lt, choose-else}
@@ -72,18 +72,18 @@ module _ {s t : State} (o : Sound s) (e : Same s t) where
         deliveries : delivered (turned s a b) (trialPasses s a b) ≡ delivered (turned t a b) (trialPasses t a b)
         deliveries = delivered-same sound turned-same (trialPasses s a b) ∙ ap (delivered (turned t a b)) trial-passes-same
 
-        after : Agree (s .n) (trial s a b .distance) (trial t a b .distance)
+        after : Agree (s .n) (tableOf (trial s a b)) (tableOf (trial t a b))
         after u v lu lv = trial-same .distance u v (rw trial-nodes lu) (rw trial-nodes lv)
 
         -- n is the same, and so are the tables below it.
-        lost-as : lost (s .n) (s .distance) (trial s a b .distance) ≡ lost (t .n) (t .distance) (trial t a b .distance)
-        lost-as = lost-same (s .n) _ _ _ _ (e .distance) after ∙ ap (λ m. lost m (t .distance) (trial t a b .distance)) (e .n)
+        lost-as : lost (s .n) (tableOf s) (tableOf (trial s a b)) ≡ lost (t .n) (tableOf t) (tableOf (trial t a b))
+        lost-as = lost-same (s .n) _ _ _ _ (e .distance) after ∙ ap (λ m. lost m (tableOf t) (tableOf (trial t a b))) (e .n)
 
-        gained-as : gained (s .n) (s .distance) (trial s a b .distance) ≡ gained (t .n) (t .distance) (trial t a b .distance)
-        gained-as = lost-same (s .n) _ _ _ _ after (e .distance) ∙ ap (λ m. gained m (t .distance) (trial t a b .distance)) (e .n)
+        gained-as : gained (s .n) (tableOf s) (tableOf (trial s a b)) ≡ gained (t .n) (tableOf t) (tableOf (trial t a b))
+        gained-as = lost-same (s .n) _ _ _ _ after (e .distance) ∙ ap (λ m. gained m (tableOf t) (tableOf (trial t a b))) (e .n)
 
-        change-as : change (s .n) (s .distance) (trial s a b .distance) ≡ change (t .n) (t .distance) (trial t a b .distance)
-        change-as = change-same (s .n) _ _ _ _ (e .distance) after ∙ ap (λ m. change m (t .distance) (trial t a b .distance)) (e .n)
+        change-as : change (s .n) (tableOf s) (tableOf (trial s a b)) ≡ change (t .n) (tableOf t) (tableOf (trial t a b))
+        change-as = change-same (s .n) _ _ _ _ (e .distance) after ∙ ap (λ m. change m (tableOf t) (tableOf (trial t a b))) (e .n)
 
   lines-same : lines s ≡ lines t
   unfolding lines

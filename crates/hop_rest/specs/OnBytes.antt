@@ -5,7 +5,8 @@ use mathlib.Core.List.{List, [], _∷_, flatten}
 use Prim.Native.Nat.{ℕ, suc, _*_, _-_, _≤_, _<_}
 use lib.ListN.{length}
 use Rattle.hop_rule.specs.Stored.{nodes, read}
-use Rattle.hop_rule.specs.Calls.{Call, check, deliver, run, distance, downstream, queueLength, totalQueued, Outcome, answerAt, restored, outcome}
+use Rattle.hop_rule.specs.Route.{Way}
+use Rattle.hop_rule.specs.Calls.{Call, check, deliver, run, route, queueLength, totalQueued, Outcome, answerAt, restored, outcome}
 use Rattle.hop_rest.specs.Walks.{Walk, HopCount, Nearer}
 use Rattle.hop_rest.specs.Orders.{Queue, deliveries, count, Pass, deliveriesIn}
 
@@ -13,18 +14,22 @@ use Rattle.hop_rest.specs.Orders.{Queue, deliveries, count, Pass, delive
 abbrev pub asked : Call → List ℕ → ℕ
 asked c s = answerAt 0 (outcome c s [])
 
+-- What asking for a route answers, both numbers of it; 0 and 0 where it is refused.
+abbrev pub askedRoute : ℕ → ℕ → List ℕ → Way
+askedRoute u v s = let o = outcome (route u v) s [] in record { distance = answerAt 0 o; downstream = answerAt 1 o }
+
 -- The buffer t has settled over the links of the buffer s:
 pub record SettledBytes (s t : List ℕ) : Type 0 where
   -- check accepts it, it has as many nodes, and nothing is queued there;
   pub accepted : outcome check t [] .number ≡ 0
   pub same-nodes : nodes t ≡ nodes s
   pub nothing-queued : asked totalQueued t ≡ 0
-  -- each distance asked for is the hop count,
-  pub distances : (u v : ℕ) → u < nodes s → v < nodes s → HopCount (read s) u v (asked (distance u v) t)
-  -- and each downstream the node itself for itself, 255 without a path, and otherwise the lowest-numbered neighbour one hop nearer.
-  pub own : (u : ℕ) → u < nodes s → asked (downstream u u) t ≡ u
-  pub none : (u v : ℕ) → u < nodes s → v < nodes s → ((d : ℕ) → Walk (read s) u v d → ⊥) → asked (downstream u v) t ≡ 255
-  pub next : (u v d : ℕ) → u < nodes s → v < nodes s → suc d < nodes s → HopCount (read s) u v (suc d) → Nearer (read s) u v d (asked (downstream u v) t)
+  -- of each route asked for the distance is the hop count,
+  pub distances : (u v : ℕ) → u < nodes s → v < nodes s → HopCount (read s) u v (askedRoute u v t .distance)
+  -- and the downstream the node itself for itself, 255 without a path, and otherwise the lowest-numbered neighbour one hop nearer.
+  pub own : (u : ℕ) → u < nodes s → askedRoute u u t .downstream ≡ u
+  pub none : (u v : ℕ) → u < nodes s → v < nodes s → ((d : ℕ) → Walk (read s) u v d → ⊥) → askedRoute u v t .downstream ≡ 255
+  pub next : (u v d : ℕ) → u < nodes s → v < nodes s → suc d < nodes s → HopCount (read s) u v (suc d) → Nearer (read s) u v d (askedRoute u v t .downstream)
 
 -- ---- a run
 

@@ -5,6 +5,7 @@ use mathlib.Core.List.{List, [], _∷_, _++_}
 use Prim.Native.Nat.{ℕ, suc, _≤_, _<_}
 use lib.ListN.{length, take}
 use Rattle.hop_rule.specs.State.{State}
+use Rattle.hop_rule.specs.Route.{route}
 use Rattle.hop_rule.specs.Sound.{Sound}
 use Rattle.hop_rule.specs.Stored.{size, nodes, read}
 use Rattle.hop_rule.specs.Calls.{judge}
@@ -22,13 +23,13 @@ pub data Chain (s : State) : ℕ → ℕ → List ℕ → Type 0 where
 -- Each node's own distance to v is the number of nodes behind it: one less at each step, and 0 at v.
 abbrev pub Falls : State → ℕ → List ℕ → Type 0
 Falls s v [] = Unit {0}
-Falls s v (x ∷ l) = (s .distance x v ≡ length l) × Falls s v l
+Falls s v (x ∷ l) = (route s x v .distance ≡ length l) × Falls s v l
 
 -- So its length is the distance and one; and no walk over up links is shorter.
 pub record IsPath (s : State) (u v : ℕ) (l : List ℕ) : Type 0 where
   pub chain : Chain s u v l
   pub falls : Falls s v l
-  pub long : length l ≡ suc (s .distance u v)
+  pub long : length l ≡ suc (route s u v .distance)
   pub shortest : (d : ℕ) → Walk s u v d → length l ≤ suc d
 
 -- ---- a set

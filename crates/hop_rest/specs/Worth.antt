@@ -11,7 +11,7 @@ use Rattle.hop_rule.specs.Words.{if_then_else_, sum}
 use Rattle.hop_rule.specs.State.{State}
 use Rattle.hop_rule.specs.Sound.{Sound}
 use Rattle.hop_rule.specs.Stored.{size, nodes, read}
-use Rattle.hop_rule.specs.Worth.{turned, trial, over, change, Line, line, lines, seven, worth}
+use Rattle.hop_rule.specs.Worth.{turned, trial, tableOf, over, change, Line, line, lines, seven, worth}
 use Rattle.hop_rest.specs.Walks.{Walk, HopCount}
 use Rattle.hop_rest.specs.Rest.{AtRest, Settled}
 use Rattle.hop_rest.specs.Accepted.{Accepted}
@@ -31,7 +31,7 @@ parted n before after = over n (λ u v. if before u v && not (after u v) then 1 
 
 -- Every pair with a route in s and in t has the same distance in both.
 abbrev pub KeepDistance : State → State → Type 0
-KeepDistance s t = (u v : ℕ) → u < s .n → v < s .n → s .distance u v < s .n → t .distance u v < s .n → s .distance u v ≡ t .distance u v
+KeepDistance s t = (u v : ℕ) → u < s .n → v < s .n → tableOf s u v < s .n → tableOf t u v < s .n → tableOf s u v ≡ tableOf t u v
 
 -- ---- one line
 
@@ -44,7 +44,7 @@ pub record LineTells (s : State) (a b : ℕ) : Type 0 where
   -- its run has settled.
   pub settled : Settled (turned s a b) (trial s a b)
   -- The table before is of true hop counts, as the one after is;
-  pub before-true : HopCounts s (s .distance)
+  pub before-true : HopCounts s (tableOf s)
   -- so lost is the number of ordered pairs joined before and not after, gained the reverse,
   pub lost-true : (before after : ℕ → ℕ → Bool) → Joins s before → Joins (turned s a b) after → line s a b .lost ≡ parted (s .n) before after
   pub gained-true : (before after : ℕ → ℕ → Bool) → Joins s before → Joins (turned s a b) after → line s a b .gained ≡ parted (s .n) after before
@@ -52,11 +52,11 @@ pub record LineTells (s : State) (a b : ℕ) : Type 0 where
   pub change-true : (before after : ℕ → ℕ → ℕ) → HopCounts s before → HopCounts (turned s a b) after → line s a b .change ≡ change (s .n) before after
   -- Taking a link away gains nothing and makes no route shorter, and the change is not below zero;
   pub away-gained : s .link a b ≡ 1 → line s a b .gained ≡ 0
-  pub away-no-shorter : s .link a b ≡ 1 → (u v : ℕ) → u < s .n → v < s .n → s .distance u v ≤ trial s a b .distance u v
+  pub away-no-shorter : s .link a b ≡ 1 → (u v : ℕ) → u < s .n → v < s .n → tableOf s u v ≤ tableOf (trial s a b) u v
   pub away-change : s .link a b ≡ 1 → pos 0 ≤ℤ line s a b .change
   -- adding one loses nothing and makes no route longer, and the change is not above zero.
   pub added-lost : s .link a b ≢ 1 → line s a b .lost ≡ 0
-  pub added-no-longer : s .link a b ≢ 1 → (u v : ℕ) → u < s .n → v < s .n → trial s a b .distance u v ≤ s .distance u v
+  pub added-no-longer : s .link a b ≢ 1 → (u v : ℕ) → u < s .n → v < s .n → tableOf (trial s a b) u v ≤ tableOf s u v
   pub added-change : s .link a b ≢ 1 → line s a b .change ≤ℤ pos 0
   -- No line says nothing, so that each shows whether the link was up.
   pub away-shows : s .link a b ≡ 1 → (0 < line s a b .lost) ⊎ (pos 0 <ℤ line s a b .change)

@@ -1,5 +1,5 @@
 -- 01, 'Refusal numbers', and every public call: its refusals in the order in which they are judged, and what it gives where none applies.
--- A call has a buffer s, which holds the state, and an output out, [] where it writes none. Uses Rule, Stored, Sound and Records.
+-- A call has a buffer s, which holds the state, and an output out, [] where it writes none. Uses Rule, Route, Stored, Sound and Records.
 use mathlib.Core.Bool.{Bool, not, _||_}
 use mathlib.Core.List.{List, [], _∷_, _++_}
 use Prim.Native.Nat.{ℕ}
@@ -9,6 +9,7 @@ use Rattle.hop_rule.specs.declared.Event.{Event}
 use Rattle.hop_rule.specs.State.{State}
 use Rattle.hop_rule.specs.Words.{if_then_else_}
 use Rattle.hop_rule.specs.Rule as rule
+use Rattle.hop_rule.specs.Route as question
 use Rattle.hop_rule.specs.Stored.{size, stored, nodes, read}
 use Rattle.hop_rule.specs.Sound.{isSoundBytes}
 use Rattle.hop_rule.specs.Records.{eventRecord, statusRecord, written}
@@ -22,8 +23,7 @@ pub data Call : Type 0 where
   deliver : ℕ → ℕ → Call
   pass : Call
   run : ℕ → Call
-  distance : ℕ → ℕ → Call
-  downstream : ℕ → ℕ → Call
+  route : ℕ → ℕ → Call
   queueLength : ℕ → ℕ → Call
   totalQueued : Call
   status : ℕ → Call
@@ -83,8 +83,7 @@ refusals (down a b) s out = onState s (noNode s a ∷ noNode s b ∷ oneNode a b
 refusals (deliver w u) s out = onState s (noNode s w ∷ noNode s u ∷ oneNode w u ∷ isDown s w u ∷ nothingWaits s w u ∷ [])
 refusals pass s out = onState s []
 refusals (run k) s out = onState s []
-refusals (distance u v) s out = onState s (noNode s u ∷ noNode s v ∷ [])
-refusals (downstream u v) s out = onState s (noNode s u ∷ noNode s v ∷ [])
+refusals (route u v) s out = onState s (noNode s u ∷ noNode s v ∷ [])
 refusals (queueLength w u) s out = onState s (noNode s w ∷ noNode s u ∷ oneNode w u ∷ [])
 refusals totalQueued s out = onState s []
 refusals (status u) s out = onState s (noNode s u ∷ short out 14 ∷ [])
@@ -128,8 +127,7 @@ done (down a b) s out = changed (rule.linkDown (read s) a b) [] s out
 done (deliver w u) s out = changed (rule.deliver (read s) w u) [] s out
 done pass s out = changed (rule.pass (read s)) (rule.total (read s) ∷ []) s out
 done (run k) s out = let m = rule.made (read s) k in changed (rule.passes (read s) m) (m ∷ rule.delivered (read s) m ∷ []) s out
-done (distance u v) s out = answered (read s .distance u v ∷ []) s out
-done (downstream u v) s out = answered (read s .downstream u v ∷ []) s out
+done (route u v) s out = let way = question.route (read s) u v in answered (way .distance ∷ way .downstream ∷ []) s out
 done (queueLength w u) s out = answered (length (read s .queue w u) ∷ []) s out
 done totalQueued s out = answered (rule.total (read s) ∷ []) s out
 done (status u) s out = recorded (statusRecord (read s) u) s out

@@ -1,5 +1,6 @@
 pub mod Words
 pub mod State
+pub mod Route
 pub mod Rule
 pub mod Stored
 pub mod Sound
@@ -13,3 +14,4 @@ pub mod Damage
 pub mod Readings
 pub mod WorthTable
 pub mod WhyTable
+pub mod RouteTable

@@ -10,7 +10,7 @@ use Rattle.hop_rule.specs.Rule.{least, distanceOf, downstreamOf, send, r
 use Rattle.hop_rule.specs.Stored.{size, grid, cube, destinationAt, valueAt, block, stored, start, nodes, flat, deep, readAs, read}
 use Rattle.hop_rule.specs.Sound.{waits, differ, each, pairs, triples, isSound, isSoundAs}
 use Rattle.hop_rule.specs.Records.{words, recordOf, statusRecord, written}
-use Rattle.hop_rule.specs.Calls.{Call, make, up, down, deliver, pass, run, distance, downstream, queueLength, totalQueued, status, judge, refusals, Outcome, answered, done, outcome}
+use Rattle.hop_rule.specs.Calls.{Call, make, up, down, deliver, pass, run, route, queueLength, totalQueued, status, judge, refusals, Outcome, answered, done, outcome}
 
 -- What is looked at after the last call: its number with its other answers, the bytes, the output, or the entries of a queue.
 pub data Look : Type 0 where
@@ -68,8 +68,8 @@ table =
     -- P3 the queues hold all destinations, those of value n too
     (sees [] (queue 0 1) (0 ∷ 0 ∷ 1 ∷ 2 ∷ [])
     ∷ sees [] (queue 1 0) (0 ∷ 2 ∷ 1 ∷ 0 ∷ [])
-    -- P4 deliver 0 → 1: distance of 1 to 0 is 1; queue 1 → 0 is (0,1),(1,0); 3 wait in all
-    ∷ sees (deliver 0 1 ∷ distance 1 0 ∷ []) answers (0 ∷ 1 ∷ [])
+    -- P4 deliver 0 → 1: distance of 1 to 0 is 1, by way of 0; queue 1 → 0 is (0,1),(1,0); 3 wait in all
+    ∷ sees (deliver 0 1 ∷ route 1 0 ∷ []) answers (0 ∷ 1 ∷ 0 ∷ [])
     ∷ sees (deliver 0 1 ∷ []) (queue 1 0) (0 ∷ 1 ∷ 1 ∷ 0 ∷ [])
     ∷ sees (deliver 0 1 ∷ totalQueued ∷ []) answers (0 ∷ 3 ∷ [])
     -- P5 run with allowance 255: 2 passes, 5 deliveries. Allowance 0: 0 and 0
@@ -95,23 +95,24 @@ table =
     -- Our own: the same as P8 after P4, where what waits for node 1 and what waits from it differ, and it reaches the other
     ∷ sees (deliver 0 1 ∷ status 1 ∷ []) output (12 ∷ 0 ∷ 1 ∷ 0 ∷ 1 ∷ 0 ∷ 1 ∷ 0 ∷ 2 ∷ 0 ∷ 1 ∷ 0 ∷ 3 ∷ 0 ∷ [])
     ∷ [])
-    -- P9 line 0-1-2, n = 3, at rest, down 1 2: 1 waits; rest after 2 deliveries; 0 has distance 3 to 2
+    -- P9 line 0-1-2, n = 3, at rest, down 1 2: 1 waits; rest after 2 deliveries; 0 has distance 3 to 2, and no downstream
     ∷ case 118 (make 3 ∷ up 0 1 ∷ up 1 2 ∷ run 255 ∷ down 1 2 ∷ [])
     (sees (totalQueued ∷ []) answers (0 ∷ 1 ∷ [])
     ∷ sees (run 255 ∷ []) answers (0 ∷ 2 ∷ 2 ∷ [])
-    ∷ sees (run 255 ∷ distance 0 2 ∷ []) answers (0 ∷ 3 ∷ [])
+    ∷ sees (run 255 ∷ route 0 2 ∷ []) answers (0 ∷ 3 ∷ 255 ∷ [])
     ∷ [])
     -- P10 the same line with n = 4: 1's distance to 2 becomes 3 by way of 0, whose way is still 1, a passing loop; rest after 3 deliveries and 3 passes
-    ∷ case 257 (make 4 ∷ up 0 1 ∷ up 1 2 ∷ run 255 ∷ down 1 2 ∷ [])
-    (sees (distance 1 2 ∷ []) answers (0 ∷ 3 ∷ [])
-    ∷ sees (downstream 1 2 ∷ []) answers (0 ∷ 0 ∷ [])
-    ∷ sees (downstream 0 2 ∷ []) answers (0 ∷ 1 ∷ [])
-    ∷ sees (run 255 ∷ []) answers (0 ∷ 3 ∷ 3 ∷ [])
+    ∷ case 257 (make 4 ∷ up 0 1 ∷ up 1 2 ∷ run 255 ∷ [])
+    (sees (down 1 2 ∷ route 1 2 ∷ []) answers (0 ∷ 3 ∷ 0 ∷ [])
+    ∷ sees (down 1 2 ∷ route 0 2 ∷ []) answers (0 ∷ 2 ∷ 1 ∷ [])
+    ∷ sees (down 1 2 ∷ run 255 ∷ []) answers (0 ∷ 3 ∷ 3 ∷ [])
+    -- Our own: before it 1 has 2 at 1 hop by way of 2. The hops of one state with the direction of the other, 1 and 0, are true of neither
+    ∷ sees (route 1 2 ∷ []) answers (0 ∷ 1 ∷ 2 ∷ [])
     ∷ [])
     -- Our own: a square whose lower-numbered side is closed last. 0 turns from 2 to 1 for destination 3, at equal distance, and sends nothing for it
     ∷ case 257 (make 4 ∷ up 0 2 ∷ up 2 3 ∷ up 0 1 ∷ run 255 ∷ up 1 3 ∷ run 255 ∷ [])
     (sees [] answers (0 ∷ 2 ∷ 11 ∷ [])
-    ∷ sees (downstream 0 3 ∷ []) answers (0 ∷ 1 ∷ [])
+    ∷ sees (route 0 3 ∷ []) answers (0 ∷ 2 ∷ 1 ∷ [])
     ∷ [])
     ∷ []
 

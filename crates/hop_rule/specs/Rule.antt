@@ -1,11 +1,12 @@
--- 01, 'The rule': Tajibnapis's rule as functions from a state to a state, in 01's order. Uses State and Words.
+-- 01, 'The rule': Tajibnapis's rule as functions from a state to a state, in 01's order. Uses State, Words and, for what a route is, Route.
 use mathlib.Core.Bool.{Bool, not, _&&_}
 use mathlib.Core.List.{List, [], _∷_}
 use Prim.Native.Nat.{ℕ, zero, suc, min}
-use lib.Dec.{eqb, ltb}
+use lib.Dec.{eqb}
 use lib.ListN.{length}
 use Rattle.hop_rule.specs.Words.{if_then_else_, loop, sum, listed, first}
 use Rattle.hop_rule.specs.State.{State, Entry, withLink, withRoute, withViews, withView, withQueues, withQueue}
+use Rattle.hop_rule.specs.Route.{route, routed}
 
 -- u's own end of the link to w is up, where its byte is exactly 1. By it u looks at its views from w.
 abbrev pub up : State → ℕ → ℕ → Bool
@@ -94,9 +95,9 @@ waitingFrom s u = sum (s .n) (λ x. length (s .queue u x))
 abbrev pub atRest : State → Bool
 atRest s = eqb (total s) 0
 
--- Destinations other than u itself that u has at a distance below n.
+-- Destinations other than u itself that u has a route to.
 unfoldable pub reached : State → ℕ → ℕ
-reached s u = sum (s .n) (λ v. if not (eqb v u) && ltb (s .distance u v) (s .n) then 1 else 0)
+reached s u = sum (s .n) (λ v. if not (eqb v u) && routed (s .n) (route s u v .distance) then 1 else 0)
 
 -- 'Run': k passes; how many of an allowance k are made, the least number that empties every queue, or k if that is smaller; and what they deliver, the sum of what was queued at the start of each.
 unfoldable pub passes : State → ℕ → State

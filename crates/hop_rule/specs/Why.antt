@@ -1,25 +1,25 @@
--- 02, R-3, 'Tell the night desk why': the reason why a node reaches a destination in so many hops or not at all, as bytes, and the call. Uses Words, State, Stored, Records, Calls and, for what a route is, Worth.
+-- 02, R-3, 'Tell the night desk why': the reason why a node reaches a destination in so many hops or not at all, as bytes, and the call. Uses Words, State, Route, Stored, Records and Calls.
 use mathlib.Core.List.{List, [], _∷_, _++_}
 use Prim.Native.Nat.{ℕ, zero, suc}
 use lib.Dec.{eqb}
 use lib.ListN.{length}
 use Rattle.hop_rule.specs.Words.{if_then_else_, those}
 use Rattle.hop_rule.specs.State.{State}
+use Rattle.hop_rule.specs.Route.{route, routed}
 use Rattle.hop_rule.specs.Stored.{read}
 use Rattle.hop_rule.specs.Records.{written}
 use Rattle.hop_rule.specs.Calls.{Refusal, judge, onState, noNode, notAtRest, short}
-use Rattle.hop_rule.specs.Worth.{routed}
 
 -- ---- the reason
 
 -- The path along the downstreams from u to v, whose remaining hop count falls by one at each step.
 unfoldable pub along : State → ℕ → ℕ → ℕ → List ℕ
 along s u v zero = u ∷ []
-along s u v (suc hops) = u ∷ along s (s .downstream u v) v hops
+along s u v (suc hops) = u ∷ along s (route s u v .downstream) v hops
 
 -- The set of instances joined to u, u included, ascending.
 unfoldable pub joinedTo : State → ℕ → List ℕ
-joinedTo s u = those (s .n) (routed (s .n) (s .distance) u)
+joinedTo s u = those (s .n) (λ v. routed (s .n) (route s u v .distance))
 
 -- Where there is a route it is the path, and where there is none the set.
 pub data Reason : Type 0 where
@@ -27,7 +27,7 @@ pub data Reason : Type 0 where
   set : List ℕ → Reason
 
 unfoldable pub reason : State → ℕ → ℕ → Reason
-reason s u v = if routed (s .n) (s .distance) u v then path (along s u v (s .distance u v)) else set (joinedTo s u)
+reason s u v = let hops = route s u v .distance in if routed (s .n) hops then path (along s u v hops) else set (joinedTo s u)
 
 -- Which of them it is, as a number: 1 a path, 2 a set. And its list.
 unfoldable pub kind : Reason → ℕ

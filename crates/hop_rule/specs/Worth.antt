@@ -1,5 +1,5 @@
--- 02, R-1, 'What is each link worth?': a trial for every pair of nodes, a line of seven signed numbers about each, and the call. Uses Words, State, Rule, Stored, Records and Calls.
-use mathlib.Core.Bool.{Bool, not, _&&_}
+-- 02, R-1, 'What is each link worth?': a trial for every pair of nodes, a line of seven signed numbers about each, and the call. Uses Words, State, Rule, Route, Stored, Records and Calls.
+use mathlib.Core.Bool.{not, _&&_}
 use mathlib.Core.List.{List, [], _∷_, _++_}
 use Prim.Native.Nat.{ℕ}
 use lib.Dec.{eqb, ltb}
@@ -8,6 +8,7 @@ use lib.ListN.{length, take}
 use Rattle.hop_rule.specs.Words.{if_then_else_, sum, joined}
 use Rattle.hop_rule.specs.State.{State}
 use Rattle.hop_rule.specs.Rule.{up, linkUp, linkDown, passes, made, delivered}
+use Rattle.hop_rule.specs.Route.{route, routed}
 use Rattle.hop_rule.specs.Stored.{size, nodes, read}
 use Rattle.hop_rule.specs.Records.{written}
 use Rattle.hop_rule.specs.Calls.{Refusal, judge, onState, notAtRest, short}
@@ -27,9 +28,9 @@ trial s a b = passes (turned s a b) (trialPasses s a b)
 
 -- ---- two tables of distances over n nodes, before and after
 
--- A route is a distance below n.
-abbrev pub routed : ℕ → (ℕ → ℕ → ℕ) → ℕ → ℕ → Bool
-routed n d u v = ltb (d u v) n
+-- The table that a state gives: of every route that is asked for, its distance.
+abbrev pub tableOf : State → ℕ → ℕ → ℕ
+tableOf s u v = route s u v .distance
 
 -- A sum over ordered pairs; a node with itself is one of them.
 abbrev pub over : ℕ → (ℕ → ℕ → ℕ) → ℕ
@@ -37,14 +38,14 @@ over n f = sum n (λ u. sum n (f u))
 
 -- Ordered pairs that lost their route, and those that gained one: going back they would lose it.
 unfoldable pub lost : ℕ → (ℕ → ℕ → ℕ) → (ℕ → ℕ → ℕ) → ℕ
-lost n before after = over n (λ u v. if routed n before u v && not (routed n after u v) then 1 else 0)
+lost n before after = over n (λ u v. if routed n (before u v) && not (routed n (after u v)) then 1 else 0)
 
 abbrev pub gained : ℕ → (ℕ → ℕ → ℕ) → (ℕ → ℕ → ℕ) → ℕ
 gained n before after = lost n after before
 
 -- The hops of the table d, summed over ordered pairs with a route in d and in e.
 unfoldable pub hops : ℕ → (ℕ → ℕ → ℕ) → (ℕ → ℕ → ℕ) → ℕ
-hops n d e = over n (λ u v. if routed n d u v && routed n e u v then d u v else 0)
+hops n d e = over n (λ u v. if routed n (d u v) && routed n (e u v) then d u v else 0)
 
 -- The change in hops, after minus before, over ordered pairs with a route both times. It is below zero when routes got shorter.
 unfoldable pub change : ℕ → (ℕ → ℕ → ℕ) → (ℕ → ℕ → ℕ) → ℤ
@@ -64,15 +65,16 @@ pub record Line : Type 0 where
 
 unfoldable pub line : State → ℕ → ℕ → Line
 line s a b =
-    let after = trial s a b .distance in
+    let before = tableOf s in
+    let after = tableOf (trial s a b) in
     record {
       low = a;
       high = b;
       passes = trialPasses s a b;
       deliveries = delivered (turned s a b) (trialPasses s a b);
-      lost = lost (s .n) (s .distance) after;
-      gained = gained (s .n) (s .distance) after;
-      change = change (s .n) (s .distance) after;
+      lost = lost (s .n) before after;
+      gained = gained (s .n) before after;
+      change = change (s .n) before after;
     }
 
 -- One line per pair a < b, ascending.

@@ -6,8 +6,8 @@ use native.Mathlib.Decide.{decLt}
 use native.Mathlib.Omega.{arith}
 use lib.ListN.{length}
 use lib.Seq.{sets}
-use Rattle.hop_rule.specs.declared.Table.the-variants.{Distances}
-use Rattle.hop_rule.specs.Stored.{nodes, flat, readAs, read}
+use Rattle.hop_rule.specs.Route.{route}
+use Rattle.hop_rule.specs.Stored.{nodes, readAs, read}
 use Rattle.hop_rule.specs.Records.{written}
 use Rattle.hop_rule.specs.Calls.{Refusal, judge, noNode, notAtRest, short}
 use Rattle.hop_rule.specs.Why.{along, joinedTo, Reason, path, set, reason, kind, shown, beforeList, whyRefusals, whyDone, why}
@@ -16,7 +16,7 @@ use Rattle.hop_laws.proofs.Lists.{sets-written}
 use Rattle.hop_laws.proofs.Calls.{judge-applies, judge-next, judge-first, judge-passed}
 use Rattle.hop_laws.proofs.Why.{reason-path, reason-set, why-done, why-refused}
 use Rattle.hop_rest.proofs.WhyCall.{known}
-use Rattle.hop_cells.specs.Cells.{Room, get, get2}
+use Rattle.hop_cells.specs.Cells.{Room}
 use Rattle.hop_judge.specs.declared.Judged.{Judged}
 use Rattle.hop_judge.specs.declared.Judged.the-variants.{Go, Refused}
 use Rattle.hop_judge.specs.Verdict.{verdict}
@@ -55,8 +55,8 @@ module _ (u v : ℕ) (s : List ℕ) {j : Judged} (e : j ≡ verdict (judge (befo
   ready = ends-ready s u v (notAtRest s ∷ []) e g
 
   -- The state is sound and at rest, so that a path does not leave it.
-  pub path-inside : {d : ℕ} → d ≡ get2 n Distances u v s → d < n → Stays (readAs n s) u v d
-  unfolding readAs flat get
+  pub path-inside : {d : ℕ} → d ≡ route (readAs n s) u v .distance → d < n → Stays (readAs n s) u v d
+  unfolding readAs
   path-inside {d} at l =
       let k = known u v s [] (gone _ _ e g .0) in
       let claim = claim-known s _ e g in
@@ -91,11 +91,11 @@ module _ (u v : ℕ) (s list : List ℕ) {j : Judged} (e : j ≡ verdict (judge 
             held (reason (read s) u v) list (omega arith) ∙ sym (why-done u v s list all)
 
     -- the path where there is a route, and the set where there is none.
-    module _ {d : ℕ} (at : d ≡ get2 n Distances u v s) where
+    module _ {d : ℕ} (at : d ≡ route (readAs n s) u v .distance) where
       pub path-given : d < n → handed (path (along (readAs n s) u v d)) list ≡ why u v s list
-      unfolding readAs flat get
+      unfolding readAs
       path-given l = ap (λ r. handed r list) (ap (λ k. path (along (readAs n s) u v k)) at ∙ sym (reason-path (readAs n s) u v (omega (arith, at, l)))) ∙ why-handed
 
       pub set-given : n ≤ d → handed (set (joinedTo (readAs n s) u)) list ≡ why u v s list
-      unfolding readAs flat get
+      unfolding readAs
       set-given l = ap (λ r. handed r list) (sym (reason-set (readAs n s) u v (omega (arith, at, l)))) ∙ why-handed

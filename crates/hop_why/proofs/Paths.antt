@@ -1,35 +1,25 @@
 -- The path of a stored state, one hop on; and at rest each node of it is below n. Assumes nothing.
 use mathlib.Core.Path.{_≡_, refl}
 use mathlib.Core.Bool.{true, false}
-use mathlib.Core.List.{List, [], _∷_}
+use mathlib.Core.List.{[], _∷_}
 use Prim.Native.Nat.{ℕ, zero, suc, _-_, _≤_, _<_}
 use native.Mathlib.Numerals.{sub-one}
 use native.Mathlib.Omega.{arith}
 use borrow.Author.Tests.{lt-ltb, le-ltb}
-use Rattle.hop_rule.specs.declared.Table.the-variants.{Distances, Downstreams}
 use Rattle.hop_rule.specs.State.{State}
-use Rattle.hop_rule.specs.Stored.{flat, readAs}
+use Rattle.hop_rule.specs.Route.{route, routed}
 use Rattle.hop_rule.specs.Sound.{Sound}
-use Rattle.hop_rule.specs.Worth.{routed}
 use Rattle.hop_rule.specs.Why.{along}
 use Rattle.hop_rest.specs.Rest.{AtRest}
 use Rattle.hop_rest.proofs.Why.{along-route}
-use Rattle.hop_cells.specs.Cells.{get, get2}
 use Rattle.hop_why.specs.Writing.{Stays}
 
--- The byte that is read is the downstream.
-pub downstream-read : (n : ℕ) (s : List ℕ) (u v : ℕ) → get2 n Downstreams u v s ≡ readAs n s .downstream u v
-unfolding readAs flat get
-downstream-read n s u v = refl
-
 -- Whether a distance that is read is below n is whether there is a route.
-module _ (n : ℕ) (s : List ℕ) (u v : ℕ) {d : ℕ} (at : d ≡ get2 n Distances u v s) where
-  pub route-so : d < n → routed n (readAs n s .distance) u v ≡ true
-  unfolding readAs flat get
+module _ (n : ℕ) (s : State) (u v : ℕ) {d : ℕ} (at : d ≡ route s u v .distance) where
+  pub route-so : d < n → routed n (route s u v .distance) ≡ true
   route-so l = lt-ltb _ n (rw (← at) l)
 
-  pub route-not : n ≤ d → routed n (readAs n s .distance) u v ≡ false
-  unfolding readAs flat get
+  pub route-not : n ≤ d → routed n (route s u v .distance) ≡ false
   route-not l = le-ltb _ n (rw (← at) l)
 
 module _ (s : State) (u v : ℕ) where

@@ -1,9 +1,8 @@
 // Why a node reaches a destination in so many hops, or not at all (02, R-3): the path, the set, and the public call, which does not count on its caller.
 
-use hop_cells::get2;
+use hop_cells::route;
 use hop_judge::Judged;
 use hop_judge::judge_why;
-use hop_rule::Table;
 use hop_seen::added;
 use hop_seen::has;
 ghost use mathlib.Core.Path.{_≡_};
@@ -33,12 +32,12 @@ fn path(s: &[u8], list: &mut [u8], n: usize, u: usize, v: usize, hops: usize, at
 {
     list[at] = u as u8;
     if 0 < hops {
-        let next = get2(s, n, Table::Downstreams, u, v);
+        let next = route(s, n, u, v).downstream;
         path(s, list, n, next, v, hops - 1, at + 1);
     }
 }
 
-// The nodes joined to u, as a set in one number, and how many they are. Its row of distances is read once.
+// The nodes joined to u, as a set in one number, and how many they are. Its row is read once.
 struct Joined {
     set: u64,
     count: usize,
@@ -51,7 +50,7 @@ fn joined_to(s: &[u8], n: usize, u: usize) -> Joined
     let mut set = 0u64;
     let mut count = 0;
     for x in 0..n {
-        if get2(s, n, Table::Distances, u, x) < n {
+        if route(s, n, u, x).distance < n {
             set = added(set, x as u8);
             count += 1;
         }
@@ -108,7 +107,7 @@ pub fn why(s: &[u8], u: usize, v: usize, list: &mut [u8]) -> WhyAnswer
     match judge_why(s, u, v) {
         Judged::Refused(c) => WhyAnswer::Refused(c),
         Judged::Go(n) => {
-            let hops = get2(s, n, Table::Distances, u, v);
+            let hops = route(s, n, u, v).distance;
             if hops < n {
                 show_path(s, list, n, u, v, hops)
             } else {

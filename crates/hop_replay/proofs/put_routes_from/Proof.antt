@@ -21,21 +21,16 @@ abbrev μ-loop : tie.MeasureT-loop
 loop-holds : tie.Need-loop-holds Inv-loop μ-loop
 loop-holds c = (search needs, joined-none _)
 
-get2-requires : tie.Need-get2-requires Inv-loop μ-loop
-get2-requires c κs = search needs
-
-get2-requires-2 : tie.Need-get2-requires-2 Inv-loop μ-loop
-get2-requires-2 c κs = search needs
+route-requires : tie.Need-route-requires Inv-loop μ-loop
+route-requires c κs = search needs
 
 put-route-requires : tie.Need-put-route-requires Inv-loop μ-loop
 put-route-requires c κs =
-    let at-get22 = c .before in
-    let at-get2 = at-get22 .before in
-    let at-loop-test = at-get2 .before in
+    let at-loop-test = c .before .before in
     let at-loop = at-loop-test .before in
     let at-args = at-loop .before .before .before in
     let s = at-args .args .state .now in
-    rw (route-read _ s (at-args .args .u) (at-loop .loop .v) (at-get2 .get2 .ensures .0) (at-get22 .get22 .ensures .0))
+    rw (route-read _ s (at-args .args .u) (at-loop .loop .v) (c .before .route .ensures))
     (joined-ends (routeAt (readAs _ s) (at-args .args .u)) (at-loop .loop .v) _ (at-loop-test .loop-test .taken) (rw (from-lines _ s (at-args .args .u)) at (at-args .pre .2)) (at-loop .loop .inv .1))
 
 add-v : tie.Need-add-v Inv-loop μ-loop
@@ -47,12 +42,11 @@ loop-less c = search needs
 loop-again : tie.Need-loop-again Inv-loop μ-loop
 loop-again c =
     let at-put-route = c .before .before in
-    let at-get22 = at-put-route .before .before in
-    let at-get2 = at-get22 .before in
-    let at-loop = at-get2 .before .before in
+    let at-route = at-put-route .before .before in
+    let at-loop = at-route .before .before in
     let at-args = at-loop .before .before .before in
     let s = at-args .args .state .now in
-    (search needs, joined-turn (routeAt (readAs _ s) (at-args .args .u)) (at-loop .loop .v) (at-loop .loop .inv .1) (rw (route-read _ s (at-args .args .u) (at-loop .loop .v) (at-get2 .get2 .ensures .0) (at-get22 .get22 .ensures .0)) at (at-put-route .put-route .ensures)))
+    (search needs, joined-turn (routeAt (readAs _ s) (at-args .args .u)) (at-loop .loop .v) (at-loop .loop .inv .1) (rw (route-read _ s (at-args .args .u) (at-loop .loop .v) (at-route .route .ensures)) at (at-put-route .put-route .ensures)))
 
 same-length : tie.Need-same-length Inv-loop μ-loop
 same-length c = wrote-length (c .before .loop .inv .1)
@@ -71,8 +65,7 @@ put-routes-from-spec =
     Inv-loop
     μ-loop
     loop-holds
-    get2-requires
-    get2-requires-2
+    route-requires
     put-route-requires
     add-v
     loop-less

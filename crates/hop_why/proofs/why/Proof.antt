@@ -1,5 +1,5 @@
 -- `why` meets its contract: it is refused by its number, or hands over the path where there is a route and the set where there is none. Assumes nothing.
-use mathlib.Core.Path.{refl, _∙_}
+use mathlib.Core.Path.{_∙_}
 use borrow.Author.Needs.{needs}
 use Rattle.hop_why.proofs.Called.{why-stopped, ready, path-inside, path-given, set-given}
 use Rattle.hop_why.proofs.why.Statement.{statement}
@@ -14,17 +14,15 @@ enum-known-c c = search needs
 enum-known-n : tie.Need-enum-known-n
 enum-known-n c = search needs
 
-get2-requires : tie.Need-get2-requires
-get2-requires c κs =
-    let (room, lu, lv) = ready _ _ _ (c .before .before .before .judge-why .ensures) (c .before .n .given .1) in
-    (room, lu, lv, refl)
+route-requires : tie.Need-route-requires
+route-requires c κs = ready _ _ _ (c .before .before .before .judge-why .ensures) (c .before .n .given .1)
 
 show-path-requires : tie.Need-show-path-requires
 show-path-requires c κs =
     let at-n = c .before .before .before .before in
     let judged = at-n .before .before .judge-why .ensures in
     let (room, lu, lv) = ready _ _ _ judged (at-n .n .given .1) in
-    (room, lv, c .before .if1 .taken, path-inside _ _ _ judged (at-n .n .given .1) (c .before .before .get2 .ensures .0) (c .before .if1 .taken))
+    (room, lv, c .before .if1 .taken, path-inside _ _ _ judged (at-n .n .given .1) (c .before .before .route .ensures .distance) (c .before .if1 .taken))
 
 show-set-requires : tie.Need-show-set-requires
 show-set-requires c κs =
@@ -42,7 +40,7 @@ returns-2 : tie.Need-returns-2
 returns-2 c =
     let at-if = c .before .before .before .before in
     let at-n = at-if .before .before .before in
-    c .before .before .show-path .ensures ∙ path-given _ _ _ _ (at-n .before .before .judge-why .ensures) (at-n .n .given .1) (at-if .before .get2 .ensures .0) (at-if .if1 .taken)
+    c .before .before .show-path .ensures ∙ path-given _ _ _ _ (at-n .before .before .judge-why .ensures) (at-n .n .given .1) (at-if .before .route .ensures .distance) (at-if .if1 .taken)
 
 same-length-2 : tie.Need-same-length-2
 same-length-2 c = search needs
@@ -51,7 +49,7 @@ returns-3 : tie.Need-returns-3
 returns-3 c =
     let at-if = c .before .before .before .before in
     let at-n = at-if .before .before .before in
-    c .before .before .show-set .ensures ∙ set-given _ _ _ _ (at-n .before .before .judge-why .ensures) (at-n .n .given .1) (at-if .before .get2 .ensures .0) (at-if .if1 .left)
+    c .before .before .show-set .ensures ∙ set-given _ _ _ _ (at-n .before .before .judge-why .ensures) (at-n .n .given .1) (at-if .before .route .ensures .distance) (at-if .if1 .left)
 
 pub why-spec : {M : Type 1} → statement M
 why-spec =
@@ -60,7 +58,7 @@ why-spec =
     judge-why-requires
     enum-known-c
     enum-known-n
-    get2-requires
+    route-requires
     show-path-requires
     show-set-requires
     returns
