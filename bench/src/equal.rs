@@ -21,7 +21,7 @@ fn held(cases: u64, skip: &[&str]) {
 fn equals_the_second_implementation() {
     let program = ["program", "program-input"];
     let long = ["numbers", "two-nodes", "three-nodes", "every-node-count", "queue-places", "worth-node-counts"];
-    held(8, &[&program[..], &long, &["why-node-counts"]].concat());
+    held(8, &[&program[..], &long, &["why-node-counts", "route-node-counts"]].concat());
     held(40, &program);
 }
 

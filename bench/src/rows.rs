@@ -126,7 +126,7 @@ pub fn rows(n: usize) -> Vec<Row> {
         row("pass, at rest", at_rest(complete(n)), Call::Pass),
         row("run to rest, all links", complete(n), Call::Run { allowance: 255 }),
         row("run to rest, a line", line(n), Call::Run { allowance: 255 }),
-        row("distance", at_rest(complete(n)), Call::Distance { node: 0, destination: last }),
+        row("route", at_rest(complete(n)), Call::Route { node: 0, destination: last }),
         row("total queued, all queues full", complete(n), Call::TotalQueued),
         row("status, all queues full", complete(n), Call::Status { node: last, room: 14 }),
         row("worth, a line", at_rest(line(n)), Call::worth(n, 0)),

@@ -39,6 +39,12 @@ static uint8_t *room(size_t size)
     return bytes;
 }
 
+/* A route's number and both of its answers. */
+static int is_way(hop_way way, uint32_t code, size_t distance, size_t downstream)
+{
+    return way.code == code && way.distance == distance && way.downstream == downstream;
+}
+
 /* No bytes at all, also by no pointer. */
 static void nothing(void)
 {
@@ -52,8 +58,7 @@ static void nothing(void)
     MUST(hop_deliver(NULL, 0, 0, 1) == 2);
     MUST(hop_pass(NULL, 0).code == 2);
     MUST(hop_run(NULL, 0, 255).code == 2);
-    MUST(hop_distance(NULL, 0, 0, 0).code == 2);
-    MUST(hop_downstream(NULL, 0, 0, 0).code == 2);
+    MUST(is_way(hop_route(NULL, 0, 0, 0), 2, 0, 0));
     MUST(hop_queue_length(NULL, 0, 0, 1).code == 2);
     MUST(hop_total_queued(NULL, 0).code == 2);
     MUST(hop_status(NULL, 0, 0, NULL, 0).code == 2);
@@ -80,10 +85,12 @@ static void short_buffers(size_t n)
         MUST(hop_check(state, length) == 2);
         MUST(hop_up(state, length, 0, 1) == 2);
         MUST(hop_pass(state, length).code == 2);
+        MUST(is_way(hop_route(state, length, 0, 0), 2, 0, 0));
         MUST(hop_worth(state, length, NULL, 0, NULL, 0).code == 2);
         MUST(hop_why(state, length, 0, 0, NULL, 0).code == 2);
         state[0] = 41;
         MUST(hop_check(state, length) == 1);
+        MUST(is_way(hop_route(state, length, 0, 0), 1, 0, 0));
         MUST(hop_worth(state, length, NULL, 0, NULL, 0).code == 1);
         MUST(hop_why(state, length, 0, 0, NULL, 0).code == 1);
         free(state);
@@ -93,10 +100,11 @@ static void short_buffers(size_t n)
 static void questions(const uint8_t *state, size_t length, size_t n)
 {
     size_t u = below(n), v = below(n);
-    MUST(hop_distance(state, length, u, v).value <= n);
-    MUST(hop_downstream(state, length, u, u).value == u);
+    hop_way way = hop_route(state, length, u, v);
+    MUST(way.code == 0 && (way.distance < n ? way.downstream < n : is_way(way, 0, n, 255)));
+    MUST(is_way(hop_route(state, length, u, u), 0, 0, u));
+    MUST(is_way(hop_route(state, length, n, v), 4, 0, 0) && is_way(hop_route(state, length, u, (size_t)-1), 4, 0, 0));
     MUST(hop_queue_length(state, length, u, v).code == (u == v ? 5u : 0u));
-    MUST(hop_distance(state, length, n, v).code == 4);
     MUST(hop_total_queued(state, length).value <= n * n * (n - 1));
     uint8_t *record = room(14);
     hop_answer status = hop_status(state, length, u, record, 14);
@@ -147,15 +155,16 @@ static void worths(const uint8_t *state, size_t length, size_t n)
         MUST(worth(state, length, n, size + n, 7 * pairs + n).value == pairs);
 }
 
-/* A path: its ends, and an up link at each step; with as many hops as are known. */
+/* A path: its ends, and at each step an up link, which the route goes by with the hops that are left. */
 static int is_path(const uint8_t *state, size_t n, size_t node, size_t destination, const uint8_t *list, size_t count)
 {
     for (size_t k = 0; k + 1 < count; k++) {
         if (list[k] >= n || list[k + 1] >= n || state[1 + list[k] * n + list[k + 1]] != 1)
             return 0;
+        if (!is_way(hop_route(state, hop_size(n), list[k], destination), 0, count - 1 - k, list[k + 1]))
+            return 0;
     }
-    size_t hops = hop_distance(state, hop_size(n), node, destination).value;
-    return count == hops + 1 && list[0] == node && list[count - 1] == destination;
+    return count > 0 && list[0] == node && list[count - 1] == destination;
 }
 
 /* A set: ascending, the node in it and the destination not, and no up link from inside to outside. */
@@ -253,6 +262,7 @@ static void events(size_t n, size_t behind, int steps)
     state[1] = 2;
     MUST(hop_check(state, length) == 3);
     MUST(hop_run(state, length, 255).code == 3);
+    MUST(is_way(hop_route(state, length, n, n), 3, 0, 0));
     MUST(worth(state, length, n, 0, 0).code == 3);
     MUST(why(state, length, n, n, 0).code == 3);
     free(state);

@@ -18,6 +18,15 @@ pub struct Ran {
     pub deliveries: u32,
 }
 
+/// A way to a destination: its hops, and the neighbour to send through.
+#[repr(C)]
+#[derive(Clone, Copy, PartialEq, Eq, Debug, Default)]
+pub struct Way {
+    pub code: u32,
+    pub distance: u32,
+    pub downstream: u32,
+}
+
 /// An event that was read; kind 0 is the plain end, or a refusal.
 #[repr(C)]
 #[derive(Clone, Copy, PartialEq, Eq, Debug, Default)]
@@ -47,8 +56,7 @@ pub trait Engine {
     fn deliver(&self, state: &mut [u8], from: usize, to: usize) -> u32;
     fn pass(&self, state: &mut [u8]) -> Answer;
     fn run(&self, state: &mut [u8], allowance: u8) -> Ran;
-    fn distance(&self, state: &[u8], node: usize, destination: usize) -> Answer;
-    fn downstream(&self, state: &[u8], node: usize, destination: usize) -> Answer;
+    fn route(&self, state: &[u8], node: usize, destination: usize) -> Way;
     fn queue_length(&self, state: &[u8], from: usize, to: usize) -> Answer;
     fn total_queued(&self, state: &[u8]) -> Answer;
     fn status(&self, state: &[u8], node: usize, out: &mut [u8]) -> Answer;

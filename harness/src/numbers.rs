@@ -1,6 +1,8 @@
-//! The documents' own numbers, held against any core. Uses the trait, and the second's reading of stored bytes.
+//! The documents' own numbers, held against any core. Uses the trait, the second's reading of stored bytes, and lists of
+//! pairs.
 
-use crate::engine::{Answer, Engine, Ran, Reason};
+use crate::compare::states::{all_pairs, pairs};
+use crate::engine::{Answer, Engine, Ran, Reason, Way};
 use crate::second::stored::Blocks;
 
 type Held = Result<(), String>;
@@ -34,6 +36,8 @@ pub const NUMBERS: &[(&str, Check)] = &[
     ("R-3 a line of 40, and of 39", why_of_long_line),
     ("R-3 780 links of 40", why_of_complete),
     ("R-3 refusals and their order", why_refused),
+    ("R-4 line of 3 with a node apart, before rest and at rest", route_of_line),
+    ("R-4 refusals and their order", route_refused),
 ];
 
 /// Two things that document 01 says are equal.
@@ -51,6 +55,13 @@ fn with_links(core: &dyn Engine, n: usize, links: &[(usize, usize)]) -> Result<V
     Ok(state)
 }
 
+/// The same at rest.
+fn rested(core: &dyn Engine, n: usize, links: &[(usize, usize)]) -> Result<Vec<u8>, String> {
+    let mut state = with_links(core, n, links)?;
+    same("run", core.run(&mut state, 255).code, 0)?;
+    Ok(state)
+}
+
 /// A queue's entries, head first.
 fn queue(state: &[u8], from: usize, to: usize) -> Vec<(u8, u8)> {
     let blocks = Blocks::read(state);
@@ -59,21 +70,35 @@ fn queue(state: &[u8], from: usize, to: usize) -> Vec<(u8, u8)> {
     destinations.zip(blocks.values[from][to].iter().copied()).take(length).collect()
 }
 
-/// The whole tables as they are stored, and a row and a column of them by asking.
+/// The whole tables as they are stored, and by asking: of 40 nodes a row, a column and the two ends, of others all.
 fn tables(core: &dyn Engine, state: &[u8], should: impl Fn(usize, usize) -> (usize, usize)) -> Held {
     let blocks = Blocks::read(state);
-    for u in 0..40 {
-        for v in 0..40 {
-            let (distance, downstream) = should(u, v);
-            let stored = (blocks.distances[u][v].into(), blocks.downstreams[u][v].into());
-            same(&format!("distance and downstream of {u} to {v}"), stored, (distance, downstream))?;
-            if u == 1 || v == 38 {
-                same("distance", core.distance(state, u, v), answered(distance as u32))?;
-                same("downstream", core.downstream(state, u, v), answered(downstream as u32))?;
-            }
+    for (u, v) in all_pairs(blocks.n.into()) {
+        let should = should(u, v);
+        let stored = (blocks.distances[u][v].into(), blocks.downstreams[u][v].into());
+        same(&format!("stored route of {u} to {v}"), stored, should)?;
+        if blocks.n < 40 || u == 1 || v == 38 || u.abs_diff(v) == 39 {
+            route(core, state, (u, v), should)?;
         }
     }
     Ok(())
+}
+
+/// A route: its hops and its direction in one answer.
+fn route(core: &dyn Engine, state: &[u8], (u, v): (usize, usize), should: (usize, usize)) -> Held {
+    let should = Way { code: 0, distance: should.0 as u32, downstream: should.1 as u32 };
+    same(&format!("route of {u} to {v}"), core.route(state, u, v), should)
+}
+
+/// The state's own refusals, which come before all others: not sound, cut, no node count, empty.
+fn refused_first(mut state: Vec<u8>, refused: impl Fn(&[u8], u32) -> Held) -> Held {
+    state[1] = 1;
+    refused(&state, 3)?;
+    state.pop();
+    refused(&state, 2)?;
+    state[0] = 41;
+    refused(&state, 1)?;
+    refused(&[], 2)
 }
 
 fn answered(value: u32) -> Answer {
@@ -103,7 +128,7 @@ fn p3(core: &dyn Engine) -> Held {
 fn p4(core: &dyn Engine) -> Held {
     let mut state = with_links(core, 2, &[(0, 1)])?;
     same("deliver 0 1", core.deliver(&mut state, 0, 1), 0)?;
-    same("distance of 1 to 0", core.distance(&state, 1, 0), answered(1))?;
+    route(core, &state, (1, 0), (1, 0))?;
     same("queue 1 to 0", queue(&state, 1, 0), vec![(0, 1), (1, 0)])?;
     same("waiting", core.total_queued(&state), answered(3))
 }
@@ -117,8 +142,7 @@ fn p5(core: &dyn Engine) -> Held {
 }
 
 fn p6(core: &dyn Engine) -> Held {
-    let mut state = with_links(core, 2, &[(0, 1)])?;
-    core.run(&mut state, 255);
+    let mut state = rested(core, 2, &[(0, 1)])?;
     same("down 0 1", core.down(&mut state, 0, 1), 0)?;
     same("bytes", state, with_links(core, 2, &[])?)
 }
@@ -138,22 +162,19 @@ fn p8(core: &dyn Engine) -> Held {
 }
 
 fn p9(core: &dyn Engine) -> Held {
-    let mut state = with_links(core, 3, &[(0, 1), (1, 2)])?;
-    core.run(&mut state, 255);
+    let mut state = rested(core, 3, &[(0, 1), (1, 2)])?;
     same("down 1 2", core.down(&mut state, 1, 2), 0)?;
     same("waiting", core.total_queued(&state), answered(1))?;
     let ran = core.run(&mut state, 255);
     same("deliveries", (ran.code, ran.deliveries), (0, 2))?;
     same("rest", core.total_queued(&state), answered(0))?;
-    same("distance of 0 to 2", core.distance(&state, 0, 2), answered(3))
+    route(core, &state, (0, 2), (3, 255))
 }
 
 fn p10(core: &dyn Engine) -> Held {
-    let mut state = with_links(core, 4, &[(0, 1), (1, 2)])?;
-    core.run(&mut state, 255);
+    let mut state = rested(core, 4, &[(0, 1), (1, 2)])?;
     same("down 1 2", core.down(&mut state, 1, 2), 0)?;
-    same("distance of 1 to 2", core.distance(&state, 1, 2), answered(3))?;
-    same("downstream of 1 to 2", core.downstream(&state, 1, 2), answered(0))?;
+    route(core, &state, (1, 2), (3, 0))?;
     same("run", core.run(&mut state, 255), Ran { code: 0, passes: 3, deliveries: 3 })
 }
 
@@ -165,14 +186,12 @@ fn sizes(core: &dyn Engine) -> Held {
 }
 
 fn square(core: &dyn Engine) -> Held {
-    let mut state = with_links(core, 4, &[(0, 1), (0, 2), (1, 3), (2, 3)])?;
-    same("run", core.run(&mut state, 255).code, 0)?;
-    same("distance of 0 to 3", core.distance(&state, 0, 3), answered(2))?;
-    same("downstream of 0 to 3", core.downstream(&state, 0, 3), answered(1))
+    let state = rested(core, 4, &[(0, 1), (0, 2), (1, 3), (2, 3)])?;
+    route(core, &state, (0, 3), (2, 1))
 }
 
 fn complete(core: &dyn Engine) -> Held {
-    let links: Vec<(usize, usize)> = (0..40).flat_map(|a| (a + 1..40).map(move |b| (a, b))).collect();
+    let links = pairs(40);
     same("links", links.len(), 780)?;
     let mut state = with_links(core, 40, &links)?;
     same("waiting", core.total_queued(&state), answered(62_400))?;
@@ -194,22 +213,12 @@ fn line(core: &dyn Engine) -> Held {
     same("waiting", core.total_queued(&state), answered(39 * 2 * 40))?;
     let ran = core.run(&mut state, 255);
     same("rest within n passes", (ran.code, ran.passes <= 40), (0, true))?;
-    tables(core, &state, |u, v| {
-        let next = if v < u {
-            u - 1
-        } else if v > u {
-            u + 1
-        } else {
-            u
-        };
-        (u.abs_diff(v), next)
-    })
+    tables(core, &state, |u, v| (u.abs_diff(v), v.clamp(u.saturating_sub(1), u + 1)))
 }
 
 /// The worth of each link of a site at rest, seven numbers a line, with a place more in trial and list than needed.
 fn worth(core: &dyn Engine, n: usize, links: &[(usize, usize)]) -> Result<Vec<[i32; 7]>, String> {
-    let mut state = with_links(core, n, links)?;
-    same("run", core.run(&mut state, 255).code, 0)?;
+    let state = rested(core, n, links)?;
     let (before, pairs) = (state.clone(), n * (n - 1) / 2);
     let (mut trial, mut list) = (vec![0xee; state.len() + 1], vec![i32::MIN; 7 * pairs + 1]);
     same("worth", core.worth(&state, &mut trial, &mut list), answered(pairs as u32))?;
@@ -235,7 +244,7 @@ fn worth_of_one(core: &dyn Engine) -> Held {
 
 /// Each end tells its 38 other neighbours that the other is two hops away now, and none of them has to change.
 fn worth_of_complete(core: &dyn Engine) -> Held {
-    let links: Vec<(usize, usize)> = (0..40).flat_map(|a| (a + 1..40).map(move |b| (a, b))).collect();
+    let links = pairs(40);
     let should: Vec<[i32; 7]> = links.iter().map(|&(a, b)| [a as i32, b as i32, 1, 76, 0, 0, 2]).collect();
     same("lines", worth(core, 40, &links)?, should)
 }
@@ -256,19 +265,7 @@ fn worth_refused(core: &dyn Engine) -> Held {
     same("up 0 1", core.up(&mut state, 0, 1), 0)?;
     refused(&state, 41, 7, 12)?;
     refused(&state, 0, 0, 12)?;
-    state[1] = 1;
-    refused(&state, 0, 0, 3)?;
-    refused(&state[..40], 0, 0, 2)?;
-    state[0] = 41;
-    refused(&state[..40], 0, 0, 1)?;
-    refused(&[], 0, 0, 2)
-}
-
-/// A site at rest.
-fn rested(core: &dyn Engine, n: usize, links: &[(usize, usize)]) -> Result<Vec<u8>, String> {
-    let mut state = with_links(core, n, links)?;
-    same("run", core.run(&mut state, 255).code, 0)?;
-    Ok(state)
+    refused_first(state, |state, code| refused(state, 0, 0, code))
 }
 
 /// The reason is this one: in a list of exact length, and in one that is a byte longer.
@@ -334,8 +331,7 @@ fn why_of_long_line(core: &dyn Engine) -> Held {
 }
 
 fn why_of_complete(core: &dyn Engine) -> Held {
-    let links: Vec<(usize, usize)> = (0..40).flat_map(|a| (a + 1..40).map(move |b| (a, b))).collect();
-    let state = rested(core, 40, &links)?;
+    let state = rested(core, 40, &pairs(40))?;
     path(core, &state, &[39, 0])?;
     path(core, &state, &[0, 39])?;
     path(core, &state, &[20])
@@ -361,10 +357,35 @@ fn why_refused(core: &dyn Engine) -> Held {
     same("run", core.run(&mut state, 255).code, 0)?;
     refused(&state, 0, 1, 1, 2)?;
     refused(&state, 0, 2, 1, 2)?;
-    state[1] = 1;
-    refused(&state, 3, 3, 0, 3)?;
-    refused(&state[..117], 3, 3, 0, 2)?;
-    state[0] = 41;
-    refused(&state[..117], 3, 3, 0, 1)?;
-    refused(&[], 3, 3, 0, 2)
+    refused_first(state, |state, code| refused(state, 3, 3, 0, code))
+}
+
+/// Up, each node knows itself alone until an entry is delivered; at rest none knows a way to the node apart.
+fn route_of_line(core: &dyn Engine) -> Held {
+    let mut state = with_links(core, 4, &[(0, 1), (1, 2)])?;
+    tables(core, &state, |u, v| if u == v { (0, u) } else { (4, 255) })?;
+    same("run", core.run(&mut state, 255).code, 0)?;
+    let none = (4, 255);
+    let should = [
+        [(0, 0), (1, 1), (2, 1), none],
+        [(1, 0), (0, 1), (1, 2), none],
+        [(2, 1), (1, 1), (0, 2), none],
+        [none, none, none, (0, 3)],
+    ];
+    tables(core, &state, |u, v| should[u][v])
+}
+
+fn route_refused(core: &dyn Engine) -> Held {
+    let state = with_links(core, 3, &[(0, 1)])?;
+    let refused = |state: &[u8], node: usize, destination: usize, code: u32| {
+        let should = Way { code, distance: 0, downstream: 0 };
+        same(&format!("route {node} {destination}"), core.route(state, node, destination), should)
+    };
+    // Those after the first would be nodes if they were cut to 8, 16 or 32 bits.
+    for none in [3, 256, 65_537, (1 << 32) + 2, usize::MAX - 255] {
+        refused(&state, none, 0, 4)?;
+        refused(&state, 2, none, 4)?;
+        refused(&state, none, none, 4)?;
+    }
+    refused_first(state, |state, code| refused(state, 3, 3, code))
 }

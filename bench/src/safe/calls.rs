@@ -4,7 +4,7 @@ use super::check::{all_are, sound};
 use super::parts::{NONE, Parts, PartsMut, row, size};
 use super::why::explain;
 use super::worth::{LINE, pairs, try_all};
-use hop_harness::engine::{Answer, Engine, Ran, Read, Reason};
+use hop_harness::engine::{Answer, Engine, Ran, Read, Reason, Way};
 
 /// The implementation that the core is timed against.
 pub struct Safe;
@@ -84,6 +84,13 @@ fn status(state: &[u8], node: usize, out: &mut [u8]) -> Judged<u32> {
         place.copy_from_slice(&(field as u16).to_le_bytes());
     }
     Ok(14)
+}
+
+fn route(state: &[u8], node: usize, destination: usize) -> Judged<Way> {
+    let n = sound_state(state)?;
+    below(n, node, destination)?;
+    let (parts, at) = (Parts::of(state, n), node * n + destination);
+    Ok(Way { code: 0, distance: parts.distances[at].into(), downstream: parts.downstreams[at].into() })
 }
 
 fn worth(state: &[u8], trial: &mut [u8], lines: &mut [i32]) -> Judged<u32> {
@@ -200,18 +207,8 @@ impl Engine for Safe {
         }
     }
 
-    fn distance(&self, state: &[u8], node: usize, destination: usize) -> Answer {
-        one(sound_state(state).and_then(|n| {
-            below(n, node, destination)?;
-            Ok(Parts::of(state, n).distances[node * n + destination].into())
-        }))
-    }
-
-    fn downstream(&self, state: &[u8], node: usize, destination: usize) -> Answer {
-        one(sound_state(state).and_then(|n| {
-            below(n, node, destination)?;
-            Ok(Parts::of(state, n).downstreams[node * n + destination].into())
-        }))
+    fn route(&self, state: &[u8], node: usize, destination: usize) -> Way {
+        route(state, node, destination).unwrap_or_else(|code| Way { code, ..Way::default() })
     }
 
     fn queue_length(&self, state: &[u8], from: usize, to: usize) -> Answer {

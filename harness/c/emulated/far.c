@@ -198,14 +198,10 @@ hop_ran hop_run(uint8_t *state, size_t len, uint8_t allowance)
     return (hop_ran){is.field[0], is.field[1], is.field[2]};
 }
 
-hop_answer hop_distance(const uint8_t *state, size_t len, size_t node, size_t destination)
+hop_way hop_route(const uint8_t *state, size_t len, size_t node, size_t destination)
 {
-    return two(ask(DISTANCE, node, destination, 0, only_read(state, len), nothing));
-}
-
-hop_answer hop_downstream(const uint8_t *state, size_t len, size_t node, size_t destination)
-{
-    return two(ask(DOWNSTREAM, node, destination, 0, only_read(state, len), nothing));
+    turn_answer is = ask(ROUTE, node, destination, 0, only_read(state, len), nothing);
+    return (hop_way){is.field[0], is.field[1], is.field[2]};
 }
 
 hop_answer hop_queue_length(const uint8_t *state, size_t len, size_t from, size_t to)

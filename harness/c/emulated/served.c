@@ -160,10 +160,10 @@ static turn_answer asked(const turn_call *call, const fence all[LENT])
         hop_ran ran = hop_run(state, length, (uint8_t)a);
         return (turn_answer){0, {ran.code, ran.passes, ran.deliveries, 0}};
     }
-    case DISTANCE:
-        return two(hop_distance(state, length, a, b));
-    case DOWNSTREAM:
-        return two(hop_downstream(state, length, a, b));
+    case ROUTE: {
+        hop_way way = hop_route(state, length, a, b);
+        return (turn_answer){0, {way.code, way.distance, way.downstream, 0}};
+    }
     case QUEUE_LENGTH:
         return two(hop_queue_length(state, length, a, b));
     case TOTAL_QUEUED:

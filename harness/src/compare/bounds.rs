@@ -2,7 +2,8 @@
 //! and reasons.
 //! Uses the links of a state; hop counts are found by a search that has nothing of the rule.
 
-use crate::second::rule::State;
+use super::states::all_pairs;
+use crate::second::rule::{Route, State};
 use std::collections::VecDeque;
 
 /// True hop counts over up links from a node, n where there is no path.
@@ -25,22 +26,12 @@ pub fn hops(state: &State, from: usize) -> Vec<usize> {
 pub fn right_at_rest(state: &State) -> Result<(), String> {
     let n = state.n;
     let hops: Vec<Vec<usize>> = (0..n).map(|u| hops(state, u)).collect();
-    for u in 0..n {
-        for v in 0..n {
-            if state.distances[u][v] != hops[u][v] {
-                return Err(format!("distance of {u} to {v} is {}, {} hops", state.distances[u][v], hops[u][v]));
-            }
-            let nearer = || state.neighbours(u).into_iter().find(|&w| hops[w][v] + 1 == hops[u][v]);
-            let downstream = if u == v {
-                Some(u)
-            } else if hops[u][v] == n {
-                None
-            } else {
-                nearer()
-            };
-            if state.downstreams[u][v] != downstream {
-                return Err(format!("downstream of {u} to {v} is {:?}, not {downstream:?}", state.downstreams[u][v]));
-            }
+    for (u, v) in all_pairs(n) {
+        // Where there is no path no neighbour is nearer.
+        let nearer = state.neighbours(u).into_iter().find(|&w| hops[w][v] + 1 == hops[u][v]);
+        let should = Route { distance: hops[u][v], downstream: if u == v { Some(u) } else { nearer } };
+        if state.route(u, v) != should {
+            return Err(format!("{u} to {v} has {:?}, not {should:?}", state.route(u, v)));
         }
     }
     Ok(())

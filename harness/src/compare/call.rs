@@ -6,61 +6,23 @@ use super::states::pairs;
 use crate::engine::Engine;
 use crate::second::stored::size;
 
-/// A call on the state in a buffer.
+/// A call on the state in a buffer, with so much room for a record, so many bytes for a trial and numbers for the lines,
+/// or so many bytes for a list. What stands in trial and lists before it is random, and fixed by a seed.
 #[derive(Clone, Copy, PartialEq, Eq, Debug)]
 pub enum Call {
-    Make {
-        n: usize,
-    },
+    Make { n: usize },
     Check,
-    Up {
-        a: usize,
-        b: usize,
-    },
-    Down {
-        a: usize,
-        b: usize,
-    },
-    Deliver {
-        from: usize,
-        to: usize,
-    },
+    Up { a: usize, b: usize },
+    Down { a: usize, b: usize },
+    Deliver { from: usize, to: usize },
     Pass,
-    Run {
-        allowance: u8,
-    },
-    Distance {
-        node: usize,
-        destination: usize,
-    },
-    Downstream {
-        node: usize,
-        destination: usize,
-    },
-    QueueLength {
-        from: usize,
-        to: usize,
-    },
+    Run { allowance: u8 },
+    Route { node: usize, destination: usize },
+    QueueLength { from: usize, to: usize },
     TotalQueued,
-    /// With so much room for the record.
-    Status {
-        node: usize,
-        room: usize,
-    },
-    /// With so many bytes for the trial and so many numbers for the lines. What stands in both before it is random,
-    /// and fixed by a seed.
-    Worth {
-        trial: usize,
-        lines: usize,
-        seed: u64,
-    },
-    /// With so many bytes for the list, and random ones in it before.
-    Why {
-        node: usize,
-        destination: usize,
-        room: usize,
-        seed: u64,
-    },
+    Status { node: usize, room: usize },
+    Worth { trial: usize, lines: usize, seed: u64 },
+    Why { node: usize, destination: usize, room: usize, seed: u64 },
 }
 
 /// The number, then the other answers; 0 where a call has fewer.
@@ -125,8 +87,10 @@ impl Call {
                 let ran = core.run(state, allowance);
                 [ran.code, ran.passes, ran.deliveries]
             }
-            Call::Distance { node, destination } => one(core.distance(state, node, destination)),
-            Call::Downstream { node, destination } => one(core.downstream(state, node, destination)),
+            Call::Route { node, destination } => {
+                let way = core.route(state, node, destination);
+                [way.code, way.distance, way.downstream]
+            }
             Call::QueueLength { from, to } => one(core.queue_length(state, from, to)),
             Call::TotalQueued => one(core.total_queued(state)),
             Call::Status { node, .. } => one(core.status(state, node, out)),
@@ -158,8 +122,7 @@ impl Call {
             Call::Up { a: first, b: second },
             Call::Down { a: first, b: second },
             Call::Deliver { from: first, to: second },
-            Call::Distance { node: first, destination: second },
-            Call::Downstream { node: first, destination: second },
+            Call::Route { node: first, destination: second },
             Call::QueueLength { from: first, to: second },
             Call::why(first, second),
         ]

@@ -93,6 +93,15 @@ impl<'a> Ground<'a> {
         Ok(should.state)
     }
 
+    /// Both refuse a call with this number.
+    pub fn refuse(&mut self, before: &[u8], call: &Call, number: u32) -> Result<(), String> {
+        let should = outcome(before, call);
+        if should.answers != [number, 0, 0] {
+            return Err(format!("{call:?}: {number} is due, the second implementation answers {:?}", should.answers));
+        }
+        self.hold(before, call, &should)
+    }
+
     /// The core does a call on a state's bytes, with others behind them; the rule has made the state after it.
     pub fn follow(
         &mut self,

@@ -68,7 +68,7 @@ fn run_group(ground: &mut Ground, options: &Options, group: &Group, time: Durati
     }
 }
 
-/// The time of each group: the whole ones take what they need, the others share what is left.
+/// The time of each group: the whole ones take what they need, the others share what is left, and a quarter at least.
 fn share(group: &Group, chosen: &[&Group], left: Duration) -> Duration {
     let share = |group: &Group| match group.work {
         Work::Whole(_) => 0,
@@ -89,7 +89,7 @@ pub fn compare(core: &dyn Engine, options: &Options) -> Count {
     let (whole, cases): (Vec<&Group>, Vec<&Group>) =
         chosen.iter().partition(|group| matches!(group.work, Work::Whole(_)));
     let mut run = |groups: &[&Group]| {
-        let left = options.time().saturating_sub(start.elapsed());
+        let left = options.time().saturating_sub(start.elapsed()).max(options.time() / 4);
         for group in groups {
             if options.first && count.failed > 0 {
                 return;

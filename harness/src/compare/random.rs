@@ -67,6 +67,13 @@ impl Random {
         }
     }
 
+    /// A list of these in any order.
+    pub fn shuffled<T>(&mut self, these: impl IntoIterator<Item = T>) -> Vec<T> {
+        let mut list: Vec<T> = these.into_iter().collect();
+        self.shuffle(&mut list);
+        list
+    }
+
     /// A node count: small ones often, so that many are tried, and every one up to 40 at times.
     pub fn node_count(&mut self) -> usize {
         match self.below(100) {

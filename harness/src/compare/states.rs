@@ -1,20 +1,24 @@
 //! Sound states to start from: some that events reach, some that none do. Uses the rule and the random numbers.
 
 use super::random::Random;
-use crate::second::rule::{Entry, State, route};
+use crate::second::rule::{Entry, State, recomputed};
 
 /// All pairs a < b.
 pub fn pairs(n: usize) -> Vec<(usize, usize)> {
     (0..n).flat_map(|a| (a + 1..n).map(move |b| (a, b))).collect()
 }
 
+/// Every node with every destination, itself too.
+pub fn all_pairs(n: usize) -> Vec<(usize, usize)> {
+    (0..n).flat_map(|u| (0..n).map(move |v| (u, v))).collect()
+}
+
 /// Links of a random kind: none, a line, a ring, a star, a random set, or all.
 pub fn links(random: &mut Random, n: usize) -> Vec<(usize, usize)> {
-    let mut order: Vec<usize> = (0..n).collect();
-    random.shuffle(&mut order);
+    let order = random.shuffled(0..n);
     let joined = |a: usize, b: usize| (order[a].min(order[b]), order[a].max(order[b]));
     let line = || (1..n).map(|b| joined(b - 1, b)).collect::<Vec<_>>();
-    let mut links = match random.below(12) {
+    let links = match random.below(12) {
         0 => vec![],
         1 | 2 => line(),
         3 | 4 if n > 2 => line().into_iter().chain([joined(0, n - 1)]).collect(),
@@ -25,8 +29,7 @@ pub fn links(random: &mut Random, n: usize) -> Vec<(usize, usize)> {
             pairs(n).into_iter().filter(|_| random.chance(density)).collect()
         }
     };
-    random.shuffle(&mut links);
-    links
+    random.shuffled(links)
 }
 
 /// An event that the rule can do in a state, or nothing where a random choice finds none.
@@ -41,8 +44,7 @@ pub enum Event {
 
 /// Queues that hold something, by sender and receiver.
 pub fn filled(state: &State) -> Vec<(usize, usize)> {
-    let all = (0..state.n).flat_map(|w| (0..state.n).map(move |u| (w, u)));
-    all.filter(|&(w, u)| !state.queues[w][u].is_empty()).collect()
+    all_pairs(state.n).into_iter().filter(|&(w, u)| !state.queues[w][u].is_empty()).collect()
 }
 
 /// A random event that is not refused. With one node only passes and runs are left.
@@ -223,7 +225,7 @@ fn settle(state: &mut State) {
                     }
                 }
                 let heard = neighbours.iter().map(|&w| (w, state.views[u][w][v]));
-                let route = route(n, u, v, heard);
+                let route = recomputed(n, u, v, heard);
                 state.distances[u][v] = route.distance;
                 state.downstreams[u][v] = route.downstream;
             }

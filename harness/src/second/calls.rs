@@ -8,7 +8,7 @@ use super::rule::{MOST_NODES, State};
 use super::sound::sound;
 use super::stored::{Blocks, NONE, size, stored};
 use super::worth::Line;
-use crate::engine::{Answer, Engine, Ran, Read, Reason};
+use crate::engine::{Answer, Engine, Ran, Read, Reason, Way};
 
 /// The second implementation.
 pub struct Second;
@@ -43,10 +43,22 @@ fn wide(number: usize) -> u32 {
 }
 
 fn one(answer: Result<usize, Refusal>) -> Answer {
+    let [code, value, _] = two(answer.map(|value| (value, 0)));
+    Answer { code, value }
+}
+
+/// The number, then two answers.
+pub fn two(answer: Result<(usize, usize), Refusal>) -> [u32; 3] {
     match answer {
-        Ok(value) => Answer { code: 0, value: wide(value) },
-        Err(refusal) => Answer { code: refusal.number(), value: 0 },
+        Ok((first, second)) => [0, wide(first), wide(second)],
+        Err(refusal) => [refusal.number(), 0, 0],
     }
+}
+
+/// Hops and direction in a sound state, 255 for none.
+pub fn route(state: &State, node: usize, destination: usize) -> Result<(usize, usize), Refusal> {
+    let route = state.try_route(node, destination)?;
+    Ok((route.distance, route.downstream.unwrap_or(NONE.into())))
 }
 
 /// The worth of each link of the state in a buffer: 12 where it is not at rest, then 2 for a trial or a list that is
@@ -65,7 +77,7 @@ fn worth(buffer: &[u8], trial: &mut [u8], list: &mut [i32]) -> Result<usize, Ref
 
 /// The reason of a sound state: 4, then 12, and last 2 for a list that cannot hold all of it. Gives the kind and how
 /// many bytes were written.
-pub fn why(state: &State, node: usize, destination: usize, list: &mut [u8]) -> Result<(u32, usize), Refusal> {
+pub fn why(state: &State, node: usize, destination: usize, list: &mut [u8]) -> Result<(usize, usize), Refusal> {
     let reason = state.try_why(node, destination)?;
     let bytes = reason.bytes();
     list.get_mut(..bytes.len()).ok_or(Refusal::Short)?.copy_from_slice(&bytes);
@@ -107,19 +119,13 @@ impl Engine for Second {
     }
 
     fn run(&self, buffer: &mut [u8], allowance: u8) -> Ran {
-        match change(buffer, |state| Ok(state.run(allowance))) {
-            Ok((passes, deliveries)) => Ran { code: 0, passes: wide(passes), deliveries: wide(deliveries) },
-            Err(refusal) => Ran { code: refusal.number(), passes: 0, deliveries: 0 },
-        }
+        let [code, passes, deliveries] = two(change(buffer, |state| Ok(state.run(allowance))));
+        Ran { code, passes, deliveries }
     }
 
-    fn distance(&self, buffer: &[u8], node: usize, destination: usize) -> Answer {
-        one(state_in(buffer).and_then(|state| state.try_distance(node, destination)))
-    }
-
-    fn downstream(&self, buffer: &[u8], node: usize, destination: usize) -> Answer {
-        let downstream = state_in(buffer).and_then(|state| state.try_downstream(node, destination));
-        one(downstream.map(|w| w.unwrap_or(usize::from(NONE))))
+    fn route(&self, buffer: &[u8], node: usize, destination: usize) -> Way {
+        let [code, distance, downstream] = two(state_in(buffer).and_then(|state| route(&state, node, destination)));
+        Way { code, distance, downstream }
     }
 
     fn queue_length(&self, buffer: &[u8], from: usize, to: usize) -> Answer {
@@ -160,9 +166,7 @@ impl Engine for Second {
     }
 
     fn why(&self, buffer: &[u8], node: usize, destination: usize, list: &mut [u8]) -> Reason {
-        match state_in(buffer).and_then(|state| why(&state, node, destination, list)) {
-            Ok((kind, count)) => Reason { code: 0, kind, count: wide(count) },
-            Err(refusal) => Reason { code: refusal.number(), kind: 0, count: 0 },
-        }
+        let [code, kind, count] = two(state_in(buffer).and_then(|state| why(&state, node, destination, list)));
+        Reason { code, kind, count }
     }
 }

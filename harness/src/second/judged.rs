@@ -1,7 +1,7 @@
 //! Events and questions with their refusals, on a state that is known to be sound. Uses the rule.
 
 use super::refusal::Refusal;
-use super::rule::{Entry, MOST_NODES, State};
+use super::rule::{Entry, MOST_NODES, Route, State};
 use super::why::Reason;
 
 type Judged<T> = Result<T, Refusal>;
@@ -52,14 +52,10 @@ impl State {
         Ok(())
     }
 
-    pub fn try_distance(&self, node: usize, destination: usize) -> Judged<usize> {
+    /// Hops and direction in one answer: 4 for either number.
+    pub fn try_route(&self, node: usize, destination: usize) -> Judged<Route> {
         self.below_n(&[node, destination])?;
-        Ok(self.distances[node][destination])
-    }
-
-    pub fn try_downstream(&self, node: usize, destination: usize) -> Judged<Option<usize>> {
-        self.below_n(&[node, destination])?;
-        Ok(self.downstreams[node][destination])
+        Ok(self.route(node, destination))
     }
 
     /// A queue's entries, head first: none where the link is down.

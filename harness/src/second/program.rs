@@ -3,7 +3,7 @@
 use super::judged::node_count;
 use super::records::{self, Event};
 use super::refusal::Refusal;
-use super::rule::State;
+use super::rule::{Route, State};
 use super::stored::size;
 use std::fmt::Write;
 
@@ -60,8 +60,9 @@ pub fn text(input: &[u8]) -> String {
     }
     for u in 0..state.n {
         for v in 0..state.n {
-            let downstream = state.downstreams[u][v].map_or("-".to_string(), |w| w.to_string());
-            writeln!(text, "d {u} {v} {} {downstream}", state.distances[u][v]).expect("a string takes it");
+            let Route { distance, downstream } = state.route(u, v);
+            let downstream = downstream.map_or("-".to_string(), |w| w.to_string());
+            writeln!(text, "d {u} {v} {distance} {downstream}").expect("a string takes it");
         }
     }
     text

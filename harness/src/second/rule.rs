@@ -12,7 +12,7 @@ pub struct Entry {
     pub value: usize,
 }
 
-/// What recompute gives for one node and destination. No downstream is `None`.
+/// Hops and direction from one node to a destination. No downstream is `None`.
 #[derive(Clone, Copy, PartialEq, Eq, Debug)]
 pub struct Route {
     pub distance: usize,
@@ -30,9 +30,9 @@ pub struct State {
     pub queues: Vec<Vec<VecDeque<Entry>>>,
 }
 
-/// The route to v at u, from what each up neighbour of u was last heard to say of v.
+/// The route that recompute of v at u gives, from what each up neighbour of u was last heard to say of v.
 /// Neighbours come in ascending order, so that the first of the nearest is the lowest-numbered.
-pub fn route(n: usize, u: usize, v: usize, heard: impl Iterator<Item = (usize, usize)>) -> Route {
+pub fn recomputed(n: usize, u: usize, v: usize, heard: impl Iterator<Item = (usize, usize)>) -> Route {
     if v == u {
         return Route { distance: 0, downstream: Some(u) };
     }
@@ -79,10 +79,15 @@ impl State {
         (0..self.n).filter(|&w| self.links[u][w]).collect()
     }
 
+    /// The route that u has to v: for itself 0 and itself, with none n and no downstream.
+    pub fn route(&self, u: usize, v: usize) -> Route {
+        Route { distance: self.distances[u][v], downstream: self.downstreams[u][v] }
+    }
+
     /// Recompute of v at u. Only a changed distance is sent, on each up link of u.
     fn recompute(&mut self, u: usize, v: usize) {
         let neighbours = self.neighbours(u);
-        let new = route(self.n, u, v, neighbours.iter().map(|&w| (w, self.views[u][w][v])));
+        let new = recomputed(self.n, u, v, neighbours.iter().map(|&w| (w, self.views[u][w][v])));
         let changed = new.distance != self.distances[u][v];
         self.distances[u][v] = new.distance;
         self.downstreams[u][v] = new.downstream;

@@ -1,6 +1,6 @@
 //! Soundness, clause by clause in document 01's order, on blocks of any bytes. Uses the rule's recompute.
 
-use super::rule::route;
+use super::rule::recomputed;
 use super::stored::{Blocks, NONE};
 use std::collections::BTreeSet;
 
@@ -41,7 +41,7 @@ pub fn broken(blocks: &Blocks) -> BTreeSet<Clause> {
         }
         for v in 0..n {
             let heard = (0..n).filter(|&w| up(u, w)).map(|w| (w, usize::from(blocks.views[u][w][v])));
-            let route = route(n, u, v, heard);
+            let route = recomputed(n, u, v, heard);
             let downstream = route.downstream.map_or(usize::from(NONE), |w| w);
             demand(Clause::DistanceRecomputed, usize::from(blocks.distances[u][v]) == route.distance);
             demand(Clause::DownstreamRecomputed, usize::from(blocks.downstreams[u][v]) == downstream);

@@ -16,7 +16,7 @@ pub enum Reason {
 
 impl Reason {
     /// Which of them it is, as a number.
-    pub fn kind(&self) -> u32 {
+    pub fn kind(&self) -> usize {
         match self {
             Reason::Path(_) => 1,
             Reason::Set(_) => 2,
@@ -57,9 +57,10 @@ impl State {
         let mut path = vec![node];
         let mut at = node;
         while at != destination {
-            let next = self.downstreams[at][destination].expect("where there is a route there is a downstream");
-            let remaining = |u: usize| self.distances[u][destination];
-            assert!(self.links[at][next] && remaining(next) + 1 == remaining(at), "a step of a path at rest");
+            let here = self.route(at, destination);
+            let next = here.downstream.expect("where there is a route there is a downstream");
+            let remaining = self.route(next, destination).distance;
+            assert!(self.links[at][next] && remaining + 1 == here.distance, "a step of a path at rest");
             path.push(next);
             at = next;
         }

@@ -3,18 +3,26 @@
 use super::runs::behind;
 use crate::compare::call::Call;
 use crate::compare::damage::{self, DAMAGES};
-use crate::compare::ground::Ground;
+use crate::compare::ground::{Ground, outcome};
 use crate::compare::random::Random;
 use crate::compare::states;
 use crate::second::rule::State;
 use crate::second::sound::broken;
 use crate::second::stored::{Blocks, size, stored};
 
-/// The check, and two more calls: each of them judges the state for itself.
+/// The check, and two more calls: each of them judges the state for itself. Where the check refuses it, so do a route, a
+/// queue length and the total: for these the second implementation need not read it again.
 pub fn judged(ground: &mut Ground, random: &mut Random, buffer: &[u8]) -> Result<(), String> {
-    ground.agree(buffer, &Call::Check)?;
+    let should = outcome(buffer, &Call::Check);
+    ground.hold(buffer, &Call::Check, &should)?;
     let n = usize::from(buffer[0]).max(1);
-    let calls = Call::all(random.below(n), random.below(n));
+    let (x, y) = (random.below(n), random.below(n));
+    if should.answers[0] != 0 {
+        ground.hold(buffer, &Call::Route { node: x, destination: y }, &should)?;
+        ground.hold(buffer, &Call::QueueLength { from: x, to: y }, &should)?;
+        ground.hold(buffer, &Call::TotalQueued, &should)?;
+    }
+    let calls = Call::all(x, y);
     for _ in 0..2 {
         ground.agree(buffer, random.pick(&calls))?;
     }

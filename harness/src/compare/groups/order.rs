@@ -78,15 +78,9 @@ pub fn any_order(ground: &mut Ground, random: &mut Random) -> Result<(), String>
 
 fn choose(random: &mut Random, choice: Choice, owed: &[(usize, usize, usize)]) -> usize {
     match choice {
-        Choice::Any => random.below(owed.len()),
+        Choice::Bursts if random.chance(80) => 0,
+        Choice::Any | Choice::Bursts => random.below(owed.len()),
         Choice::Backward => owed.len() - 1,
-        Choice::Bursts => {
-            if random.chance(80) {
-                0
-            } else {
-                random.below(owed.len())
-            }
-        }
         Choice::LeastServed => (0..owed.len()).max_by_key(|&at| owed[at].2).expect("one is owed"),
     }
 }

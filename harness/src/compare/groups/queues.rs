@@ -80,8 +80,7 @@ struct Site {
 
 impl Site {
     fn new(random: &mut Random, n: usize) -> Site {
-        let mut queues: Vec<Ends> = pairs(n).into_iter().flat_map(|(a, b)| [(a, b), (b, a)]).collect();
-        random.shuffle(&mut queues);
+        let queues = random.shuffled(pairs(n).into_iter().flat_map(|(a, b)| [(a, b), (b, a)]));
         Site { state: at_rest(n, &pairs(n)), queues }
     }
 
@@ -193,8 +192,7 @@ pub fn places(ground: &mut Ground) -> Result<u64, String> {
         count += 1 + twice(ground, random, &partly_full, &at)?;
         let ascending: Vec<usize> = (0..n).collect();
         let descending: Vec<usize> = (0..n).rev().collect();
-        let mut shuffled = ascending.clone();
-        random.shuffle(&mut shuffled);
+        let shuffled = random.shuffled(0..n);
         let orders = [&ascending, &descending, &shuffled, &descending[1..], &shuffled[1..], &shuffled[..1 + n / 2]];
         // The queues take turns, so that each of them has an entry twice.
         let mut queues = site.queues.iter().copied().cycle();

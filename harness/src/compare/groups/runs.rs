@@ -2,10 +2,10 @@
 
 use super::small::call;
 use crate::compare::call::Call;
-use crate::compare::ground::Ground;
+use crate::compare::ground::{Ground, Outcome};
 use crate::compare::random::Random;
-use crate::compare::states::{self, apply, event};
-use crate::second::calls::state_in;
+use crate::compare::states::{self, all_pairs, almost_at_rest, apply, event};
+use crate::second::calls::{route, state_in, two};
 use crate::second::rule::State;
 use crate::second::stored::{size, stored};
 
@@ -82,18 +82,42 @@ pub fn every_node_count(ground: &mut Ground) -> Result<u64, String> {
 
 pub fn questions(ground: &mut Ground, random: &mut Random) -> Result<(), String> {
     let n = random.node_count();
-    let state = states::any(random, n);
+    let state = if random.chance(40) { almost_at_rest(random, n) } else { states::any(random, n) };
     let bytes = stored(&state);
     ground.agree(&bytes, &Call::TotalQueued)?;
     // All pairs of a small state, some of a large one: the second implementation reads all bytes each time.
-    let asked = (2 + 400_000 / size(n)).min(n * n);
-    for k in 0..asked {
-        let (x, y) = if asked == n * n { (k / n, k % n) } else { (random.below(n), random.below(n)) };
-        ground.agree(&bytes, &Call::Distance { node: x, destination: y })?;
-        ground.agree(&bytes, &Call::Downstream { node: x, destination: y })?;
+    for (x, y) in random.shuffled(all_pairs(n)).into_iter().take(2 + 400_000 / size(n)) {
+        ground.agree(&bytes, &Call::Route { node: x, destination: y })?;
         ground.agree(&bytes, &Call::QueueLength { from: x, to: y })?;
     }
     Ok(())
+}
+
+/// Hops and direction, for each n: of every pair of a line with a node apart, after n/2 passes and at rest, but at rest
+/// of 60 pairs where n is 21 to 39; then of up to 60 pairs of the whole line at rest, first its two ends, which are n - 1
+/// hops apart. What is due is asked of the state itself: its bytes are long to read.
+pub fn routes(ground: &mut Ground) -> Result<u64, String> {
+    let mut count = 0;
+    for n in 1..=40 {
+        let random = &mut Random::of_case(0, "route-node-counts", n as u64);
+        let (order, mut pairs) = (random.shuffled(0..n), random.shuffled(all_pairs(n)));
+        let ends = [(order[0], order[n - 1]), (order[n - 1], order[0])];
+        pairs.sort_by_key(|pair| !ends.contains(pair));
+        let most = if (21..40).contains(&n) { 60 } else { n * n };
+        for (first, passes, asked) in [(1, n as u8 / 2, n * n), (1, 255, most), (0, 255, 60)] {
+            let mut state = State::fresh(n);
+            order[first..].windows(2).for_each(|two| state.up(two[0], two[1]));
+            state.run(passes);
+            let bytes = stored(&state);
+            for &(node, destination) in pairs.iter().take(asked) {
+                let answers = two(route(&state, node, destination));
+                let should = Outcome { answers, state: bytes.clone(), out: Vec::new(), list: Vec::new() };
+                ground.hold(&bytes, &Call::Route { node, destination }, &should)?;
+                count += 1;
+            }
+        }
+    }
+    Ok(count)
 }
 
 pub fn status(ground: &mut Ground, random: &mut Random) -> Result<(), String> {

@@ -1,24 +1,22 @@
 //! Why a node reaches a destination or does not: sites at rest, states that are not, numbers of every class, lists of
-//! every length. Each reason is held to the links as well. Uses the rule, the bounds and the ground.
+//! every length. Each reason is held to the links as well; routes are asked beside it. Uses the rule, the bounds and the
+//! ground.
 
 use super::arguments::classes;
 use super::damaged::spoiled;
 use super::runs::behind;
 use crate::compare::bounds;
 use crate::compare::call::{ANY_REASON, Call};
-use crate::compare::ground::{Ground, MOST_BYTES, Outcome, outcome};
+use crate::compare::ground::{Ground, MOST_BYTES, Outcome};
 use crate::compare::random::Random;
-use crate::compare::states::{self, almost_at_rest, at_rest, pairs, site};
-use crate::second::calls::why;
+use crate::compare::states::{self, all_pairs, almost_at_rest, at_rest, pairs, site};
+use crate::engine::Way;
+use crate::second::calls::{two, why};
 use crate::second::rule::State;
 use crate::second::stored::{Blocks, stored};
 
 /// A node and a destination.
 type Pair = (usize, usize);
-
-fn all_pairs(n: usize) -> Vec<Pair> {
-    (0..n).flat_map(|u| (0..n).map(move |v| (u, v))).collect()
-}
 
 /// How many bytes the reason of a pair has.
 fn long(state: &State, (node, destination): Pair) -> usize {
@@ -30,10 +28,7 @@ fn long(state: &State, (node, destination): Pair) -> usize {
 fn explained(ground: &mut Ground, state: &State, bytes: &[u8], call: Call) -> Result<(), String> {
     let Call::Why { node, destination, .. } = call else { return Err(format!("{call:?} asks for no reason")) };
     let mut list = call.blank();
-    let answers = match why(state, node, destination, &mut list) {
-        Ok((kind, count)) => [0, kind, count as u32],
-        Err(refusal) => [refusal.number(), 0, 0],
-    };
+    let answers = two(why(state, node, destination, &mut list));
     let should = Outcome { answers, state: bytes.to_vec(), out: list, list: Vec::new() };
     ground.hold(bytes, &call, &should)?;
     match answers {
@@ -105,8 +100,7 @@ pub fn every_room(ground: &mut Ground) -> Result<u64, String> {
 
 /// Sites of n nodes: a line with one node apart, a line, a ring, all in some numbering, and a random one.
 fn sites_of(random: &mut Random, n: usize) -> Vec<State> {
-    let mut order: Vec<usize> = (0..n).collect();
-    random.shuffle(&mut order);
+    let order = random.shuffled(0..n);
     let line: Vec<Pair> = order.windows(2).map(|two| (two[0], two[1])).collect();
     let ring: Vec<Pair> = line.iter().copied().chain((n > 2).then(|| (order[n - 1], order[0]))).collect();
     let apart = &line[..line.len().saturating_sub(1)];
@@ -121,8 +115,7 @@ pub fn node_counts(ground: &mut Ground) -> Result<u64, String> {
     for n in 1..=40 {
         for (which, state) in sites_of(random, n).into_iter().enumerate() {
             let bytes = stored(&state);
-            let mut pairs = all_pairs(n);
-            random.shuffle(&mut pairs);
+            let mut pairs = random.shuffled(all_pairs(n));
             // The first has paths and sets.
             if (21..40).contains(&n) && which > 0 {
                 pairs.truncate(60);
@@ -142,15 +135,6 @@ pub fn node_counts(ground: &mut Ground) -> Result<u64, String> {
     Ok(count)
 }
 
-/// The answer is this number, and both say so.
-fn refused_with(ground: &mut Ground, bytes: &[u8], call: Call, number: u32) -> Result<(), String> {
-    let should = outcome(bytes, &call);
-    if should.answers != [number, 0, 0] {
-        return Err(format!("{call:?}: {number} is due, and the second implementation answers {:?}", should.answers));
-    }
-    ground.hold(bytes, &call, &should)
-}
-
 /// Sites where one entry waits, or so many that a byte's sum of them is 0: asked of nodes next to it and far from it,
 /// in lists that would do and in none.
 pub fn one_waits(ground: &mut Ground) -> Result<u64, String> {
@@ -162,7 +146,7 @@ pub fn one_waits(ground: &mut Ground) -> Result<u64, String> {
         let some: Vec<Pair> = [(0, 0), (0, n - 1), (n - 1, 0), (random.below(n), random.below(n))].into();
         for pair in if n <= 5 { all_pairs(n) } else { some } {
             let room = *random.pick(&[0, 1, n, ANY_REASON]);
-            refused_with(ground, &bytes, in_room(random, pair, room), 12)?;
+            ground.refuse(&bytes, &in_room(random, pair, room), 12)?;
             count += 1;
         }
     }
@@ -187,9 +171,9 @@ fn no_pairs(random: &mut Random, n: usize) -> Vec<Pair> {
 }
 
 /// Every state, pair and list that can be at fault, together with every other: what is told is the first of them in
-/// their order.
+/// their order. The same of a route, which has no list and is answered where entries wait too.
 pub fn order(ground: &mut Ground) -> Result<u64, String> {
-    let random = &mut Random::of_case(0, "why-order", 0);
+    let random = &mut Random::of_case(0, "refused-order", 0);
     let mut count = 0;
     for n in [3, 4, 7] {
         // The last node is apart, so that there are paths and sets.
@@ -201,16 +185,25 @@ pub fn order(ground: &mut Ground) -> Result<u64, String> {
         let nodes = all_pairs(n).into_iter().map(|pair| (pair, true, long(&resting, pair)));
         let others = no_pairs(random, n).into_iter().map(|pair| (pair, false, 1));
         for (pair, are_nodes, exact) in nodes.chain(others).collect::<Vec<_>>() {
-            for room in [0, exact - 1, exact, ANY_REASON, *random.pick(&far_longer(exact))] {
-                let call = in_room(random, pair, room);
+            let rooms = [0, exact - 1, exact, ANY_REASON, *random.pick(&far_longer(exact))];
+            let whys = rooms.map(|room| in_room(random, pair, room));
+            for call in whys.into_iter().chain([Call::Route { node: pair.0, destination: pair.1 }]) {
                 for (bytes, number) in &refused {
-                    refused_with(ground, bytes, call, *number)?;
+                    ground.refuse(bytes, &call, *number)?;
                 }
-                refused_with(ground, &not_at_rest, call, if are_nodes { 12 } else { 4 })?;
-                match (are_nodes, room < exact) {
-                    (false, _) => refused_with(ground, &at_rest, call, 4)?,
-                    (true, true) => refused_with(ground, &at_rest, call, 2)?,
-                    (true, false) => explained(ground, &resting, &at_rest, call)?,
+                if !are_nodes {
+                    ground.refuse(&at_rest, &call, 4)?;
+                    ground.refuse(&not_at_rest, &call, 4)?;
+                } else if let Call::Why { room, .. } = call {
+                    ground.refuse(&not_at_rest, &call, 12)?;
+                    if room < exact {
+                        ground.refuse(&at_rest, &call, 2)
+                    } else {
+                        explained(ground, &resting, &at_rest, call)
+                    }?;
+                } else {
+                    ground.agree(&at_rest, &call)?;
+                    ground.agree(&not_at_rest, &call)?;
                 }
                 count += 2 + refused.len() as u64;
             }
@@ -224,9 +217,7 @@ pub fn sites(ground: &mut Ground, random: &mut Random) -> Result<(), String> {
     let n = random.node_count();
     let state = site(random, n);
     let bytes = [stored(&state), behind(random)].concat();
-    let mut pairs = all_pairs(n);
-    random.shuffle(&mut pairs);
-    for pair in pairs.into_iter().take(1 + 4000 / bytes.len()) {
+    for pair in random.shuffled(all_pairs(n)).into_iter().take(1 + 4000 / bytes.len()) {
         let exact = long(&state, pair);
         let more = random.between(1, 900);
         for room in [exact, exact - 1, 0, exact + 1, exact + more, random.below(exact)] {
@@ -251,15 +242,13 @@ pub fn refused(ground: &mut Ground, random: &mut Random) -> Result<(), String> {
     Ok(())
 }
 
-/// The core's own reasons, with nothing of the second implementation's: a search over the links bears each out, and
-/// along a path the core's own downstreams lead.
+/// The core's own reasons, with nothing of the second implementation's: a search over the links bears each out. Along a
+/// path the core's own routes lead, one hop less at each step; from a set none does.
 pub fn by_search(ground: &mut Ground, random: &mut Random) -> Result<(), String> {
     let n = random.node_count();
     let state = site(random, n);
     let bytes = stored(&state);
-    let mut pairs = all_pairs(n);
-    random.shuffle(&mut pairs);
-    for (node, destination) in pairs.into_iter().take(1 + 4000 / bytes.len()) {
+    for (node, destination) in random.shuffled(all_pairs(n)).into_iter().take(1 + 4000 / bytes.len()) {
         let before = random.bytes(ANY_REASON + 8);
         let mut list = before.clone();
         let reason = ground.core.why(&bytes, node, destination, &mut list);
@@ -271,10 +260,13 @@ pub fn by_search(ground: &mut Ground, random: &mut Random) -> Result<(), String>
             )));
         }
         bounds::reason(&state, node, destination, reason.kind, shown).map_err(wrong)?;
-        for step in shown.windows(2).filter(|_| reason.kind == 1) {
-            let leads = ground.core.downstream(&bytes, step[0].into(), destination);
-            if (leads.code, leads.value) != (0, step[1].into()) {
-                return Err(wrong(format!("the downstream of {} to {destination} is {leads:?}", step[0])));
+        for (place, &u) in shown.iter().enumerate() {
+            let next = shown.get(place + 1).map_or(destination as u32, |&w| w.into());
+            let (distance, downstream) =
+                if reason.kind == 1 { (reason.count - 1 - place as u32, next) } else { (n as u32, 255) };
+            let way = ground.core.route(&bytes, u.into(), destination);
+            if way != (Way { code: 0, distance, downstream }) {
+                return Err(wrong(format!("the route of {u} to {destination} is {way:?}")));
             }
         }
     }

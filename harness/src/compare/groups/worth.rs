@@ -5,7 +5,7 @@ use super::damaged::spoiled;
 use super::runs::behind;
 use crate::compare::bounds;
 use crate::compare::call::{Call, needed};
-use crate::compare::ground::{Ground, outcome};
+use crate::compare::ground::Ground;
 use crate::compare::random::Random;
 use crate::compare::states::{self, almost_at_rest, at_rest, pairs, site};
 use crate::second::rule::State;
@@ -70,22 +70,12 @@ pub fn node_counts(ground: &mut Ground) -> Result<u64, String> {
     Ok(sites.len() as u64)
 }
 
-/// The state is sound and not at rest, and both say so, in buffers that would do.
-fn not_at_rest(ground: &mut Ground, state: &State, seed: u64) -> Result<(), String> {
-    let (bytes, call) = (stored(state), Call::worth(state.n, seed));
-    let should = outcome(&bytes, &call);
-    if should.answers != [12, 0, 0] {
-        return Err(format!("an entry waits, and the second implementation answers {:?}", should.answers));
-    }
-    ground.hold(&bytes, &call, &should)
-}
-
 /// Sites where one entry waits, or so many that a byte's sum of them is 0.
 pub fn one_waits(ground: &mut Ground) -> Result<u64, String> {
     let random = &mut Random::of_case(0, "worth-one-waits", 0);
     let states = states::hardly_waiting(random);
     for state in &states {
-        not_at_rest(ground, state, random.word())?;
+        ground.refuse(&stored(state), &Call::worth(state.n, random.word()), 12)?;
     }
     Ok(states.len() as u64)
 }
