@@ -38,14 +38,12 @@ static void print_tables(void)
     for (size_t u = 0; u < NODES; u++) {
         printf("%6zu", u);
         for (size_t v = 0; v < NODES; v++) {
-            hop_answer hops = hop_distance(state, sizeof state, u, v);
-            hop_answer next = hop_downstream(state, sizeof state, u, v);
-            must("distance", hops.code);
-            must("downstream", next.code);
-            if (next.value == 255)
+            hop_way way = hop_route(state, sizeof state, u, v);
+            must("route", way.code);
+            if (way.downstream == 255)
                 printf("   -/-");
             else
-                printf("%4u/%u", (unsigned)hops.value, (unsigned)next.value);
+                printf("%4u/%u", (unsigned)way.distance, (unsigned)way.downstream);
         }
         printf("\n");
     }

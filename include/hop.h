@@ -42,7 +42,8 @@
  * of numbers is aligned as int32_t is. The core relies on all this and cannot check it.
  *
  * No function allocates, blocks, prints, keeps anything between calls, or calls another library. Calls on
- * different buffers may run at the same time; calls on one buffer that change it may not.
+ * different buffers may run at the same time. Nobody may write to a buffer while a call works on it: calls on one
+ * buffer that change it run alone, and those that do not may share it.
  *
  *     #include "hop.h"
  *
@@ -50,7 +51,15 @@
  *     hop_make(state, sizeof state, 2);
  *     hop_up(state, sizeof state, 0, 1);
  *     hop_ran ran = hop_run(state, sizeof state, 255);       // ran.passes is 2, ran.deliveries is 5
- *     hop_answer hops = hop_distance(state, sizeof state, 0, 1);         // hops.code is 0, hops.value is 1
+ *     hop_way way = hop_route(state, sizeof state, 0, 1);    // way.code is 0, way.distance 1, way.downstream 1
+ *
+ * CHANGES, for callers who upgrade, by change request. A program that still names a call that went does not link.
+ *
+ *    R-1  came: hop_worth, and refusal 12.
+ *    R-3  came: hop_why.
+ *    R-4  came: hop_route; went: hop_distance, hop_downstream. Where a program asked both, it asks once now:
+ *             hop_way way = hop_route(s, len, u, v);
+ *         way.code is the code of both, way.distance the value of the first, way.downstream that of the second.
  */
 #ifndef HOP_H
 #define HOP_H
@@ -71,6 +80,11 @@ typedef struct {
 typedef struct {
     uint32_t code, passes, deliveries;
 } hop_ran;
+
+/* A way to a destination: its hops, and the neighbour to send through. Both are 0 where the number is not. */
+typedef struct {
+    uint32_t code, distance, downstream;
+} hop_way;
 
 /* An event that was read. kind is 0 at the plain end (code 0) and where the record is refused. */
 typedef struct {
@@ -163,24 +177,26 @@ hop_ran hop_run(uint8_t *state, size_t len, uint8_t allowance);
 
 /* ------------------------------------------------------------------ questions: none changes the state */
 
-/* The distance of a node to a destination in hops. value: 0 for the node itself, n for no route known.
+/* What a node has for a destination: how many hops away it is, and the neighbour to send through. Both are of one state
+ * as it stood at one moment, and the state is checked once for both.
  *
- * Refuses: the state's own; 4 (value is then 0, and not n).
+ *     destination         distance    downstream
+ *     the node itself     0           the node itself
+ *     with a route        1 to n-1    the neighbour to send through, the lowest-numbered of the nearest
+ *     with none           n           255
  *
- *     hop_answer hops = hop_distance(state, len, 0, 3);
- *     if (hops.code == 0 && hops.value < n) printf("%u hops\n", (unsigned)hops.value);
+ * n and 255 always come together: either says that no route is known. Before rest the two are what the node believes:
+ * where it has a route to another node, that neighbour has said one hop less, which can be out of date. At rest
+ * distances are true hop counts, n where no path leads there, and the neighbour is one hop nearer.
+ *
+ * Refuses: the state's own; 4 (both answers are then 0, and not n and 255: look at code first).
+ *
+ *     hop_way way = hop_route(state, len, 0, 3);
+ *     if (way.code == 0 && way.distance > 0 && way.downstream != 255)  // 0 hops: it is here
+ *         printf("%u hops by way of %u\n", (unsigned)way.distance, (unsigned)way.downstream);
+ *     // with 4 nodes and the links 0-1, 0-2, 1-3 and 2-3, at rest: 2 hops by way of 1
  */
-hop_answer hop_distance(const uint8_t *state, size_t len, size_t node, size_t destination);
-
-/* The neighbour that a node sends through to reach a destination: the lowest-numbered of the nearest. value:
- * the node itself for itself, 255 for none.
- *
- * Refuses: the state's own; 4 (value is then 0, and not 255).
- *
- *     hop_answer next = hop_downstream(state, len, 0, 3);
- *     if (next.code == 0 && next.value != 255) forward_to(next.value);
- */
-hop_answer hop_downstream(const uint8_t *state, size_t len, size_t node, size_t destination);
+hop_way hop_route(const uint8_t *state, size_t len, size_t node, size_t destination);
 
 /* How many entries wait in the queue from one node to another. value: 0 to n; 0 where the link is down.
  *

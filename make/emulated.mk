@@ -8,6 +8,12 @@ EMULATED_ARCHIVE ?= target/staticlib/libhop_c.a
 EMULATED := build/emulated
 EMULATED_C := harness/c/emulated
 
+# For C programs without a C library. One that is only linked, and never run, can have memcpy and memset anywhere.
+X86_CC = $(KIT_TOOLS)/bin/clang --target=x86_64-unknown-linux-gnu $(C_FLAGS) -O2 -ffreestanding -fno-stack-protector \
+	-fno-pie -nostdinc -isystem $(EMULATED_C)/freestanding
+X86_ARCHIVE = $(EMULATED_ARCHIVE)
+X86_LINKED = $(X86_CC) -fuse-ld=lld -nostdlib -static -Wl,-e,main,--defsym,memcpy=0,--defsym,memset=0
+
 $(EMULATED):
 	@mkdir -p $@
 
@@ -18,9 +24,7 @@ $(EMULATED)/where: always | $(EMULATED)
 
 # The archive as a program that is asked its calls. Nothing but the archive and this one file is linked.
 $(EMULATED)/served: $(EMULATED_ARCHIVE) $(EMULATED_C)/served.c $(EMULATED_C)/turn.h include/hop.h $(EMULATED)/where
-	@$(KIT_TOOLS)/bin/clang --target=x86_64-unknown-linux-gnu -std=c11 -Wall -Wextra -Wpedantic -Werror -O2 \
-		-ffreestanding -fno-stack-protector -fno-pie -nostdinc -isystem $(EMULATED_C)/freestanding -Iinclude \
-		-c $(EMULATED_C)/served.c -o $@.o
+	@$(X86_CC) -c $(EMULATED_C)/served.c -o $@.o
 	@$(KIT_TOOLS)/bin/ld.lld -static $@.o $(EMULATED_ARCHIVE) -o $@
 
 # An archive for this machine with the same calls, each of which is made there.

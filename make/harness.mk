@@ -1,9 +1,9 @@
 # The Rust, C and Python side of the core: comparison, program cases, benchmarks, examples, sanitizers.
 # Needs cargo, a C and a C++ compiler and Python 3. The archive and the program are for x86-64: elsewhere they are
-# emulated (make/emulated.mk), and what times them or looks into them is not done.
+# emulated (make/emulated.mk), and what times them or watches them run is not done.
 # The main Makefile includes it; alone it is `make -f make/harness.mk TARGET` in the root of the repository.
 .PHONY: compare program-test selftest must-notice valgrind asan bench bench-test before example example-ring \
-	example-worth example-why header header-c header-cxx rust-test native always
+	example-worth example-why exports header header-c header-cxx rust-test native always
 
 # The archive under test, and the program. Either can be another one, which is then taken as it is.
 NATIVE := $(filter x86_64,$(shell uname -m))
@@ -15,6 +15,9 @@ COMPARE ?= --seconds 60
 HARNESS_OUT := build/harness
 HARNESS_BIN := build/cargo/release
 C_FLAGS := -std=c11 -Wall -Wextra -Wpedantic -Werror -Iinclude
+# The archive for x86-64 itself, on every machine, and what compiles a C program and links it to that.
+X86_ARCHIVE = $(HOP_ARCHIVE)
+X86_LINKED = $(CC) $(C_FLAGS)
 # For cargo: with the archive, and without any; a folder each, so that neither builds the other's again.
 LINKED = HOP_ARCHIVE='$(HOP_ARCHIVE)' CARGO_TARGET_DIR=build/cargo
 UNLINKED = HOP_ARCHIVE=none CARGO_TARGET_DIR=build/unlinked
@@ -70,6 +73,10 @@ header-c:
 header-cxx:
 	@printf '#include "hop.h"\n' | $(CXX) -std=c++11 -Wall -Wextra -Wpedantic -Werror -Iinclude -x c++ -fsyntax-only -
 
+# The names that the archive exports are those that the header declares; a program with a call that went does not link.
+exports: $(X86_ARCHIVE)
+	@tests/exports $(X86_ARCHIVE) $(X86_LINKED)
+
 # The C examples: what each prints is shown, and held to the text beside it.
 example: example-ring example-worth example-why
 
@@ -81,7 +88,7 @@ example-ring example-worth example-why: example-%: $(HOP_ARCHIVE) | $(HARNESS_OU
 # What the sanitizers run: the comparison with few cases of each group, without those that are all-or-nothing and long.
 # Its fences have closed pages on both sides with or without them.
 FEW := --cases 5 --skip three-nodes --skip every-node-count --skip every-byte --skip numbers --skip queue-places \
-	--skip worth-node-counts --skip why-node-counts
+	--skip worth-node-counts --skip why-node-counts --skip route-node-counts
 
 # Reads of what nobody wrote and accesses outside of a buffer, in the archive's own code: exact buffers from C, then
 # the comparison.
@@ -111,7 +118,8 @@ bench-test:
 # Ratios of the core's time to a careful safe Rust implementation's, every byte equal first. BENCH: a word of the rows'
 # names (check, pass, records, ..) for these alone, or --itself for the safe implementation against itself.
 # BEFORE: an older archive, which then stands where the safe implementation does, for --itself too; built in a folder
-# of its own. Calls that it does not have yet are not timed.
+# of its own. Calls that came with a later request, hop_route with R-4, it does not have: they are not timed, and those
+# that it alone has are not asked.
 BEFORE_LINKED = HOP_ARCHIVE=$(HARNESS_OUT)/libhop_now.a HOP_BEFORE=$(HARNESS_OUT)/libhop_before.a \
 	CARGO_TARGET_DIR=build/before
 bench: native $(HOP_ARCHIVE) $(if $(BEFORE),before)

@@ -17,6 +17,13 @@ pub struct Ran {
 }
 
 #[repr(C)]
+pub struct Way {
+    pub code: u32,
+    pub distance: u32,
+    pub downstream: u32,
+}
+
+#[repr(C)]
 pub struct Read {
     pub code: u32,
     pub kind: u32,
@@ -40,8 +47,7 @@ unsafe extern "C" {
     fn hop_deliver(state: *mut u8, len: usize, from: usize, to: usize) -> u32;
     fn hop_pass(state: *mut u8, len: usize) -> Answer;
     fn hop_run(state: *mut u8, len: usize, allowance: u8) -> Ran;
-    fn hop_distance(state: *const u8, len: usize, node: usize, destination: usize) -> Answer;
-    fn hop_downstream(state: *const u8, len: usize, node: usize, destination: usize) -> Answer;
+    fn hop_route(state: *const u8, len: usize, node: usize, destination: usize) -> Way;
     fn hop_queue_length(state: *const u8, len: usize, from: usize, to: usize) -> Answer;
     fn hop_total_queued(state: *const u8, len: usize) -> Answer;
     fn hop_worth(
@@ -90,12 +96,8 @@ pub fn run(state: &mut [u8], allowance: u8) -> Ran {
     unsafe { hop_run(state.as_mut_ptr(), state.len(), allowance) }
 }
 
-pub fn distance(state: &[u8], node: usize, destination: usize) -> Answer {
-    unsafe { hop_distance(state.as_ptr(), state.len(), node, destination) }
-}
-
-pub fn downstream(state: &[u8], node: usize, destination: usize) -> Answer {
-    unsafe { hop_downstream(state.as_ptr(), state.len(), node, destination) }
+pub fn route(state: &[u8], node: usize, destination: usize) -> Way {
+    unsafe { hop_route(state.as_ptr(), state.len(), node, destination) }
 }
 
 pub fn queue_length(state: &[u8], from: usize, to: usize) -> Answer {

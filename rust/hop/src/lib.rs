@@ -14,6 +14,11 @@
 //! [`LinkIsUp`](Refusal::LinkIsUp) or [`LinkIsDown`](Refusal::LinkIsDown), [`QueueIsEmpty`](Refusal::QueueIsEmpty),
 //! [`NotAtRest`](Refusal::NotAtRest), and last an output, a trial or a list that is too short.
 //!
+//! # Routes
+//!
+//! [`State::route`] gives what a node has for a destination as one [`Way`]: the hops, and the neighbour to send through.
+//! No event can run between the two.
+//!
 //! # Coming to rest
 //!
 //! Without link events, n passes bring any sound state to rest: no queue holds an entry, every distance is the true
@@ -42,7 +47,7 @@ mod worth;
 pub use event::{Event, Reader};
 pub use reason::Reason;
 pub use refusal::Refusal;
-pub use state::{Ran, State};
+pub use state::{Ran, State, Way};
 pub use status::Status;
 pub use worth::{Lines, Worth};
 

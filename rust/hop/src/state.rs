@@ -28,7 +28,7 @@ use std::fmt;
 /// buffer[..41].copy_from_slice(state.as_bytes());
 /// let mut lent = State::over(&mut buffer[..]);
 /// assert_eq!(lent.run(255)?.deliveries, 5);
-/// assert_eq!(lent.distance(0, 1)?, 1);
+/// assert_eq!(lent.route(0, 1)?.distance, 1);
 /// # Ok::<(), hop::Refusal>(())
 /// ```
 #[derive(Clone)]
@@ -43,6 +43,34 @@ pub struct Ran {
     pub passes: usize,
     /// The entries delivered in them.
     pub deliveries: usize,
+}
+
+/// What a node has for a destination, see [`State::route`].
+///
+/// ```
+/// use hop::Way;
+///
+/// let forward = |way: Way| match way {
+///     Way { distance: 0, .. } => "here".to_string(),
+///     Way { distance, downstream: Some(next) } => format!("{distance} hops by way of {next}"),
+///     Way { downstream: None, .. } => "no route".to_string(),
+/// };
+/// let mut state = hop::State::new(3)?;
+/// state.up(0, 1)?;
+/// state.up(1, 2)?;
+/// assert_eq!(forward(state.route(0, 2)?), "no route");
+/// state.run(255)?;
+/// assert_eq!(forward(state.route(0, 2)?), "2 hops by way of 1");
+/// assert_eq!(forward(state.route(2, 2)?), "here");
+/// # Ok::<(), hop::Refusal>(())
+/// ```
+#[derive(Clone, Copy, PartialEq, Eq, Hash, Debug)]
+pub struct Way {
+    /// The hops to the destination: 0 from the node to itself, n where no route is known.
+    pub distance: usize,
+    /// The neighbour to send through, the lowest-numbered of the nearest: the node itself for itself, and nothing exactly
+    /// where the distance is n.
+    pub downstream: Option<usize>,
 }
 
 impl State<Vec<u8>> {
@@ -97,19 +125,32 @@ impl<B: AsRef<[u8]>> State<B> {
         done(ffi::check(self.as_bytes()))
     }
 
-    /// The hops from a node to a destination: 0 for itself, n where no route is known.
+    /// What a node has for a destination: how many hops away it is, and the neighbour to send through.
+    ///
+    /// Both are of one state as it stood at one moment, and cost one check of it. Before rest they are what the node
+    /// believes: where it has a route to another node, that neighbour has said one hop less, which can be out of date.
+    /// At rest distances are true hop counts, and the neighbour is one hop nearer.
     ///
     /// Refuses: [`NoSuchNode`](Refusal::NoSuchNode).
-    pub fn distance(&self, node: usize, destination: usize) -> Result<usize, Refusal> {
-        answered(ffi::distance(self.as_bytes(), node, destination))
-    }
-
-    /// The neighbour that a node sends through to reach a destination: itself for itself, nothing without a route.
     ///
-    /// Refuses: [`NoSuchNode`](Refusal::NoSuchNode).
-    pub fn downstream(&self, node: usize, destination: usize) -> Result<Option<usize>, Refusal> {
-        let downstream = answered(ffi::downstream(self.as_bytes(), node, destination))?;
-        Ok((downstream != 255).then_some(downstream))
+    /// ```
+    /// use hop::{State, Way};
+    ///
+    /// // The line 0-1-2, and 3 apart.
+    /// let mut state = State::new(4)?;
+    /// state.up(0, 1)?;
+    /// state.up(1, 2)?;
+    /// state.run(255)?;
+    /// assert_eq!(state.route(0, 2)?, Way { distance: 2, downstream: Some(1) });
+    /// assert_eq!(state.route(0, 0)?, Way { distance: 0, downstream: Some(0) });
+    /// assert_eq!(state.route(0, 3)?, Way { distance: 4, downstream: None });
+    /// # Ok::<(), hop::Refusal>(())
+    /// ```
+    pub fn route(&self, node: usize, destination: usize) -> Result<Way, Refusal> {
+        let way = ffi::route(self.as_bytes(), node, destination);
+        done(way.code)?;
+        let downstream = (way.downstream != 255).then_some(way.downstream as usize);
+        Ok(Way { distance: way.distance as usize, downstream })
     }
 
     /// How many entries wait in the queue from one node to another; 0 where the link is down.

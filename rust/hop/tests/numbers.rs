@@ -1,6 +1,6 @@
 //! Document 01's numbers through the safe crate, and what only this crate has. Uses the crate as its users do.
 
-use hop::{Event, Ran, Reader, Refusal, State, Status};
+use hop::{Event, Ran, Reader, Refusal, State, Status, Way};
 
 type Done = Result<(), Refusal>;
 
@@ -28,7 +28,7 @@ fn p3_to_p6_two_nodes() -> Done {
     assert_eq!((state.queue_length(0, 1)?, state.queue_length(1, 0)?), (2, 2));
     let mut delivered = state.clone();
     delivered.deliver(0, 1)?;
-    assert_eq!((delivered.distance(1, 0)?, delivered.total_queued()?), (1, 3));
+    assert_eq!((delivered.route(1, 0)?.distance, delivered.total_queued()?), (1, 3));
     assert_eq!(state.run(0)?, Ran { passes: 0, deliveries: 0 });
     assert_eq!(state.run(255)?, Ran { passes: 2, deliveries: 5 });
     assert_eq!(state.deliver(0, 1), Err(Refusal::QueueIsEmpty));
@@ -44,7 +44,7 @@ fn p7_and_p8_refusals_and_status() -> Done {
     assert_eq!(state.up(0, 1), Err(Refusal::LinkIsUp));
     assert_eq!(state.up(1, 1), Err(Refusal::OneNode));
     assert_eq!(state.up(2, 2), Err(Refusal::NoSuchNode));
-    assert_eq!(state.distance(65_536, 0), Err(Refusal::NoSuchNode));
+    assert_eq!([state.route(65_536, 0), state.route(0, 2)], [Err(Refusal::NoSuchNode); 2]);
     let mut out = [0xee; 15];
     assert_eq!(state.write_status(1, &mut out)?, Status::LENGTH);
     assert_eq!(out, [12, 0, 1, 0, 1, 0, 2, 0, 2, 0, 0, 0, 4, 0, 0xee]);
@@ -55,15 +55,17 @@ fn p7_and_p8_refusals_and_status() -> Done {
 }
 
 #[test]
-fn square_at_rest() -> Done {
+fn square_before_rest_and_at_rest() -> Done {
     let mut state = with_links(4, &[(0, 1), (0, 2), (1, 3), (2, 3)])?;
+    let way = |distance, downstream| Ok(Way { distance, downstream });
     state.run(255)?;
-    assert_eq!((state.distance(0, 3)?, state.downstream(0, 3)?), (2, Some(1)));
-    state.down(0, 1)?;
-    state.down(0, 2)?;
+    assert_eq!([0, 1, 3].map(|u| state.route(u, 3)), [way(2, Some(1)), way(1, Some(3)), way(0, Some(3))]);
+    // Entries wait: 0 has not heard that 1 lost the link, and 1 believes what 0 said.
+    state.down(1, 3)?;
+    assert_eq!([0, 1, 3].map(|u| state.route(u, 3)), [way(2, Some(1)), way(3, Some(0)), way(0, Some(3))]);
+    state.down(2, 3)?;
     state.run(255)?;
-    assert_eq!((state.distance(0, 3)?, state.downstream(0, 3)?), (4, None));
-    assert_eq!(state.downstream(0, 0)?, Some(0));
+    assert_eq!([0, 1, 3].map(|u| state.route(u, 3)), [way(4, None), way(4, None), way(0, Some(3))]);
     Ok(())
 }
 
@@ -75,6 +77,7 @@ fn lent_read_only_and_damaged() -> Done {
     bytes[2] = 7;
     let damaged = bytes.clone();
     assert_eq!(State::over(&mut bytes[..]).pass(), Err(Refusal::NotSound));
+    assert_eq!(State::over(&bytes[..]).route(3, 3), Err(Refusal::NotSound));
     assert_eq!(bytes, damaged);
     assert_eq!(State::over(&bytes[..117]).check(), Err(Refusal::ShortBuffer));
     assert_eq!(State::over([]).check(), Err(Refusal::ShortBuffer));

@@ -2,7 +2,7 @@
 //! their order, what stays untouched, every pair of several sites checked against its links, and wrong reasons, which
 //! the check refuses. Uses the crate as its users do.
 
-use hop::{MOST_NODES, Reason, Refusal, State};
+use hop::{MOST_NODES, Reason, Refusal, State, Way};
 
 type Done = Result<(), Refusal>;
 type Links<'a> = &'a [(usize, usize)];
@@ -50,26 +50,24 @@ fn known_numbers() -> Done {
     Ok(())
 }
 
-/// Every pair of a site: the reason holds by the links, is of the kind that the distance says, and a path goes by the
-/// downstreams, one hop nearer at each step.
+/// Every pair of a site: the reason holds by the links, there is a set only where there is no route, and each node of a
+/// path sends to the next, with as many hops to go as nodes stand behind it.
 fn every_pair(site: (usize, Links)) -> Done {
     let state = at_rest(site)?;
     let mut list = vec![0; site.0];
-    for node in 0..site.0 {
-        for destination in 0..site.0 {
-            let why = state.why(node, destination, &mut list)?;
-            assert_eq!(checked(site, node, destination, why), HOLDS, "{node} to {destination}: {why:?}");
-            let hops = state.distance(node, destination)?;
-            let Reason::Path(path) = why else {
-                assert_eq!(hops, site.0, "{node} to {destination}: {why:?}");
-                continue;
-            };
-            assert_eq!(path.len(), hops + 1, "{node} to {destination}: {why:?}");
-            for (k, step) in path.windows(2).enumerate() {
-                let (here, next) = (step[0].into(), step[1].into());
-                assert_eq!(state.downstream(here, destination)?, Some(next), "{node} to {destination}: {why:?}");
-                assert_eq!(state.distance(here, destination)?, hops - k, "{node} to {destination}: {why:?}");
-            }
+    for (node, destination) in (0..site.0).flat_map(|u| (0..site.0).map(move |v| (u, v))) {
+        let why = state.why(node, destination, &mut list)?;
+        assert_eq!(checked(site, node, destination, why), HOLDS, "{node} to {destination}: {why:?}");
+        let Reason::Path(path) = why else {
+            let none = Way { distance: site.0, downstream: None };
+            assert_eq!(state.route(node, destination)?, none, "{node} to {destination}: {why:?}");
+            continue;
+        };
+        // The last is the destination, whose way to itself is no hop and itself.
+        let last = path.len() - 1;
+        for (k, &here) in path.iter().enumerate() {
+            let way = Way { distance: last - k, downstream: Some(path[last.min(k + 1)].into()) };
+            assert_eq!(state.route(here.into(), destination)?, way, "{node} to {destination}: {why:?}");
         }
     }
     Ok(())
@@ -129,7 +127,7 @@ fn two_parts(site: (usize, Links)) -> Done {
             joined.run(255)?;
             let (a, b) = (a as u8, b as u8);
             let between = set.contains(&a) && other.contains(&b) || set.contains(&b) && other.contains(&a);
-            assert_eq!(joined.distance(node, destination)? < n, between, "{a}-{b} for {node} to {destination}");
+            assert_eq!(joined.route(node, destination)?.distance < n, between, "{a}-{b} for {node} to {destination}");
         }
     }
     Ok(())

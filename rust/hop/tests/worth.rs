@@ -24,23 +24,20 @@ fn list_of(state: &State<Vec<u8>>, mut list: Vec<i32>) -> Result<Vec<i32>, Refus
 /// The line of a pair by the crate's other calls, on a copy.
 fn tried(state: &State<Vec<u8>>, n: usize, a: usize, b: usize) -> Result<Worth, Refusal> {
     let mut trial = state.clone();
-    if state.distance(a, b)? == 1 {
-        trial.down(a, b)?
-    } else {
-        trial.up(a, b)?
+    match state.route(a, b)?.distance {
+        1 => trial.down(a, b)?,
+        _ => trial.up(a, b)?,
     }
     let ran = trial.run(255)?;
     assert_eq!(trial.total_queued()?, 0);
     let mut line = Worth { a, b, passes: ran.passes, deliveries: ran.deliveries, lost: 0, gained: 0, change: 0 };
-    for u in 0..n {
-        for v in 0..n {
-            let (before, after) = (state.distance(u, v)?, trial.distance(u, v)?);
-            match (before < n, after < n) {
-                (true, true) => line.change += after as i32 - before as i32,
-                (true, false) => line.lost += 1,
-                (false, true) => line.gained += 1,
-                (false, false) => {}
-            }
+    for (u, v) in (0..n).flat_map(|u| (0..n).map(move |v| (u, v))) {
+        let (before, after) = (state.route(u, v)?.distance, trial.route(u, v)?.distance);
+        match (before < n, after < n) {
+            (true, true) => line.change += after as i32 - before as i32,
+            (true, false) => line.lost += 1,
+            (false, true) => line.gained += 1,
+            (false, false) => {}
         }
     }
     Ok(line)
