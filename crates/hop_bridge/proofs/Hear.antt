@@ -18,7 +18,7 @@ use Rattle.hop_laws.specs.Holds.{deepOf, blank}
 use Rattle.hop_laws.proofs.Tests.{decides, tells-pair, choose-so, choose-else}
 use Rattle.hop_laws.proofs.Rule.{Alike, same-alike, distanceOf-alike, downstreamOf-alike, recompute-queue-other, hear-queue-at, deliver-head}
 use Rattle.hop_laws.proofs.Read.{destinationAt-getD, valueAt-getD}
-use Rattle.hop_rest.proofs.Kept.{waiting-sends, sends-linked, waiting-below}
+use Rattle.hop_rest.proofs.Kept.{waiting-sends, waiting-below}
 use Rattle.hop_cells.specs.Cells.{get3, put3}
 use Rattle.hop_steps.specs.Steps.{hearAt, deliver}
 use Rattle.hop_bridge.specs.Carries.{Carries}
@@ -37,7 +37,7 @@ module _ (w u : ℕ) where
 
 -- No node has a queue to itself.
 pub waiting-apart : {t : State} {w u : ℕ} {e : Entry} {rest : List Entry} → Sound t → w < t .n → u < t .n → t .queue w u ≡ e ∷ rest → w ≢ u
-waiting-apart {t} {w} {u} {e} {rest} o lw lu i j = omega (arith, waiting-sends t w u o lw lu e rest i, o .diagonal u lu, ap (λ x. t .link x u) j)
+waiting-apart {t} {w} {u} {e} {rest} o lw lu i j = omega (arith, waiting-sends t w u o lw lu e rest i .0, o .diagonal u lu, ap (λ x. t .link x u) j)
 
 -- ---- an entry is heard where it stands
 
@@ -72,7 +72,7 @@ module _ {n : ℕ} (w u : ℕ) (lw : w < n) (lu : u < n) (t : State) (q : List E
   hearAt-carries {r} {s} p rest lp h at o count i =
       let v : get3 n Destinations w u p s ≡ e .destination = h .filled .deeps Destinations tt w u p lw lu lp ∙ ap (λ k. destinationAt k p) (with-at w u t q) ∙ destinationAt-getD q p ∙ ap (λ f. f .destination) at in
       let d : get3 n Values w u p s ≡ e .value = h .filled .deeps Values tt w u p lw lu lp ∙ ap (λ k. valueAt k p) (with-at w u t q) ∙ valueAt-getD q p ∙ ap (λ f. f .value) at in
-      let linked : t .link u w ≡ 1 = sends-linked w u o (rw count lw) (rw count lu) (waiting-sends t w u o (rw count lw) (rw count lu) e rest i) in
+      let linked : t .link u w ≡ 1 = waiting-sends t w u o (rw count lw) (rw count lu) e rest i .1 in
       let lv : e .destination < n = rw count at (waiting-below t w u o (rw count lw) (rw count lu) e rest i) in
       rw (v, d, lt-ltb (e .destination) n lv)
       (carries-same (settle-carries t w u e q (hear-carries h lv) o lw lu lv linked) (withQueue (rule.deliver t w u) w u q) (heard-delivered rest i (waiting-apart o (rw count lw) (rw count lu) i)))

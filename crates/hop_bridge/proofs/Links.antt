@@ -1,19 +1,22 @@
--- Link up and link down on the bytes, one end after the other, are the rule's, both ends at one moment. Assumes nothing.
-use mathlib.Core.Path.{_≡_, refl, sym, ap, subst, _∙_}
+-- Link up, one end's notice that a link is lost, and link down by notices: on the bytes they are the rule's. Assumes nothing.
+use mathlib.Core.Path.{refl, sym, ap, subst, _∙_}
+use mathlib.Core.Bool.{Bool, true, false, cond}
 use mathlib.Core.List.{List, []}
 use Prim.Native.Nat.{ℕ, _<_}
+use lib.Dec.{ltb}
 use Rattle.hop_rule.specs.declared.Table.the-variants.{Links, Views}
 use Rattle.hop_rule.specs.Words.{loop, listed}
 use Rattle.hop_rule.specs.State.{State, Entry, withLink, withViews, withQueue}
 use Rattle.hop_rule.specs.Rule as rule
+use Rattle.hop_rule.specs.Notice as ends
 use Rattle.hop_rule.specs.Stored.{destinationAt, valueAt}
 use Rattle.hop_laws.specs.Holds.{deepOf, blank}
 use Rattle.hop_laws.proofs.Words.{loop-both, length-listed, getD-listed}
 use Rattle.hop_laws.proofs.Queues.{listed-differ, listed-each}
 use Rattle.hop_laws.proofs.Read.{destinationAt-getD, valueAt-getD}
 use Rattle.hop_cells.specs.Cells.{put2, fill}
-use Rattle.hop_queues.specs.Queues.{offerAll}
-use Rattle.hop_steps.specs.Steps.{recompute, linkUp, cutEnd, recomputeAll, linkDown}
+use Rattle.hop_queues.specs.Queues.{offerAll, empty}
+use Rattle.hop_steps.specs.Steps.{recompute, linkUp, lose, recomputeAll, notice, missing, linkDown}
 use Rattle.hop_bridge.specs.Carries.{Carries}
 use Rattle.hop_bridge.proofs.Filled.{row-set}
 use Rattle.hop_bridge.proofs.Rows.{fill-row}
@@ -43,16 +46,20 @@ pub linkUp-carries : {n : ℕ} {r s : List ℕ} {t : State} → Carries n r s t 
 unfolding linkUp rule.linkUp
 linkUp-carries h a b la lb = offerAll-carries (offerAll-carries (link-carries (link-carries h a b 1 la lb) b a 1 lb la) a b la lb) b a lb la
 
--- ---- link down
+-- ---- a link is lost
 
-cutEnd-carries : {n : ℕ} {r s : List ℕ} {t : State} → Carries n r s t → (u w : ℕ) → u < n → w < n → Carries n r (cutEnd n u w s) (rule.cutEnd t u w)
-unfolding cutEnd destinationAt valueAt
-cutEnd-carries {n} {r} {s} {t} h u w lu lw =
-    let down : Carries n r (put2 n Links u w 0 s) (withLink t u w 0) = link-carries h u w 0 lu lw in
-    let blind : Carries n r (fill n Views u w n (put2 n Links u w 0 s)) (withViews (withLink t u w 0) u w (λ v. n)) =
-    views-carries (down .orderly) u w (λ v. n) (fill-row (deepOf (withLink t u w 0)) Views u w (t .view u w) (row-set Views u w (down .filled)) tt lu lw n) in
-    subst (λ m. Carries n r (cutEnd n u w s) (withQueue (withViews (withLink t u w 0) u w (λ v. m)) u w [])) (sym (h .orderly .count))
-    (queue-carries (blind .orderly) [] (empty-queued (queued (blind .filled)) lu lw) (record { differ = tt; below = tt }) refl (λ c lc. refl) (λ c lc. refl))
+empty-carries : {n : ℕ} {r s : List ℕ} {t : State} → Carries n r s t → (w u : ℕ) → w < n → u < n → Carries n r (empty n w u s) (withQueue t w u [])
+unfolding destinationAt valueAt
+empty-carries h w u lw lu = queue-carries (h .orderly) [] (empty-queued (queued (h .filled)) lw lu) (record { differ = tt; below = tt }) refl (λ c lc. refl) (λ c lc. refl)
+
+lose-carries : {n : ℕ} {r s : List ℕ} {t : State} → Carries n r s t → (a b : ℕ) → a < n → b < n → Carries n r (lose n a b s) (ends.lose t a b)
+unfolding lose ends.lose
+lose-carries {n} {r} {s} {t} h a b la lb =
+    let down : Carries n r (put2 n Links a b 0 s) (withLink t a b 0) = link-carries h a b 0 la lb in
+    let blind : Carries n r (fill n Views a b n (put2 n Links a b 0 s)) (withViews (withLink t a b 0) a b (λ v. n)) =
+    views-carries (down .orderly) a b (λ v. n) (fill-row (deepOf (withLink t a b 0)) Views a b (t .view a b) (row-set Views a b (down .filled)) tt la lb n) in
+    subst (λ m. Carries n r (lose n a b s) (withQueue (withQueue (withViews (withLink t a b 0) a b (λ v. m)) a b []) b a [])) (sym (h .orderly .count))
+    (empty-carries (empty-carries blind a b la lb) b a lb la)
 
 recomputeAll-carries : {n : ℕ} {r s : List ℕ} {t : State} → Carries n r s t → (u : ℕ) → u < n → Carries n r (recomputeAll n u s) (rule.recomputeAll t u)
 unfolding recomputeAll rule.recomputeAll
@@ -60,6 +67,22 @@ recomputeAll-carries {n} {r} {s} {t} h u lu =
     subst (λ m. Carries n r (loop n (recompute n u) s) (loop m (λ v y. rule.recompute y u v) t)) (sym (h .orderly .count))
     (loop-both (Carries n r) n (recompute n u) (λ v y. rule.recompute y u v) s t h (λ v x y lv k. recompute-carries k u v lu lv))
 
-pub linkDown-carries : {n : ℕ} {r s : List ℕ} {t : State} → Carries n r s t → (a b : ℕ) → a < n → b < n → Carries n r (linkDown n a b s) (rule.linkDown t a b)
-unfolding linkDown rule.linkDown rule.cut
-linkDown-carries h a b la lb = recomputeAll-carries (recomputeAll-carries (cutEnd-carries (cutEnd-carries h a b la lb) b a lb la) a la) b lb
+pub notice-carries : {n : ℕ} {r s : List ℕ} {t : State} → Carries n r s t → (a b : ℕ) → a < n → b < n → Carries n r (notice n a b s) (ends.notice t a b)
+unfolding notice ends.notice
+notice-carries h a b la lb = recomputeAll-carries (lose-carries h a b la lb) a la
+
+missing-carries : {n : ℕ} {r s : List ℕ} {t : State} → Carries n r s t → (a b : ℕ) → a < n → b < n → Carries n r (missing n a b s) (ends.missing t a b)
+unfolding missing ends.missing
+missing-carries {n} {r} {s} {t} h a b la lb = rw (h .filled .flats Links tt a b la lb) (go (rule.up t a b))
+  where
+    go : (c : Bool) → Carries n r (cond c (notice n a b s) s) (cond c (ends.notice t a b) t)
+    go true = notice-carries h a b la lb
+    go false = h
+
+pub linkDown-carries : {n : ℕ} {r s : List ℕ} {t : State} → Carries n r s t → (a b : ℕ) → a < n → b < n → Carries n r (linkDown n a b s) (ends.linkDown t a b)
+unfolding linkDown ends.linkDown
+linkDown-carries {n} {r} {s} {t} h a b la lb = go (ltb a b)
+  where
+    go : (c : Bool) → Carries n r (cond c (missing n b a (missing n a b s)) (missing n a b (missing n b a s))) (cond c (ends.missing (ends.missing t a b) b a) (ends.missing (ends.missing t b a) a b))
+    go true = missing-carries (missing-carries h a b la lb) b a lb la
+    go false = missing-carries (missing-carries h b a lb la) a b la lb

@@ -18,7 +18,7 @@ use Rattle.hop_laws.proofs.Sound.{tells-sends}
 use Rattle.hop_laws.proofs.Rule.{distanceOf-own, downstreamOf-own, recompute-queue-other}
 use Rattle.hop_queues.specs.Queues as bytes
 use Rattle.hop_steps.specs.declared.Best.{Best}
-use Rattle.hop_steps.specs.Steps.{up, store, tellOne, tell, recompute, renew}
+use Rattle.hop_steps.specs.Steps.{store, tellOne, tell, recompute, renew}
 use Rattle.hop_bridge.specs.Carries.{Carries}
 use Rattle.hop_bridge.specs.Parts.{withSent}
 use Rattle.hop_bridge.proofs.Choice.{cond-idle}
@@ -41,7 +41,7 @@ module _ (t : State) (u : ℕ) (e : Entry) where
   unfolding withSent
   sent-other k a b f = choose-else (tells-sent k a b) _ _ f
 
-  -- The next node changes no queue but u's to it, and that only over an up link.
+  -- The next node changes no queue but u's to it, and that only where both ends of the link are up.
   sent-next : (k a b : ℕ) → (a ≡ u → b ≡ k → Sends t u b → ⊥) → withSent t u e k .queue a b ≡ withSent t u e (suc k) .queue a b
   sent-next k a b f = go (decides (tells-sent k a b))
     where
@@ -67,14 +67,14 @@ module _ {n : ℕ} {r s : List ℕ} {t : State} (h : Carries n r s t) (u v d : �
 
   tellOne-carries : (k : ℕ) (x : List ℕ) → k < n → Carries n r x (withSent t u entry k) → Carries n r (tellOne n u v d k x) (withSent t u entry (suc k))
   unfolding tellOne withSent
-  tellOne-carries k x lk g = rw (g .filled .flats Links tt u k lu lk) (go (ℕ-discrete (t .link u k) 1))
+  tellOne-carries k x lk g = rw (g .filled .flats Links tt u k lu lk, g .filled .flats Links tt k u lk lu) (go (decides (tells-sends t u k)))
     where
-      go : Dec (t .link u k ≡ 1) → Carries n r (cond (eqb (t .link u k) 1) (bytes.send n u k v d x) x) (withSent t u entry (suc k))
+      go : Dec (Sends t u k) → Carries n r (cond (rule.sends t u k) (bytes.send n u k v d x) x) (withSent t u entry (suc k))
       go (yes e) =
-          rw (choose-so (tells-eq (t .link u k) 1) (bytes.send n u k v d x) x e)
+          rw (choose-so (tells-sends t u k) (bytes.send n u k v d x) x e)
           (carries-same (send-carries g u k lu lk v d lv) (withSent t u entry (suc k)) (same-queues t _ _ (λ a b la lb. sent-here t u entry k a b e)))
       go (no f) =
-          rw (choose-else (tells-eq (t .link u k) 1) (bytes.send n u k v d x) x f)
+          rw (choose-else (tells-sends t u k) (bytes.send n u k v d x) x f)
           (carries-same g (withSent t u entry (suc k)) (same-queues t _ _ (λ a b la lb. sent-next t u entry k a b (λ i j z. f (rw j at z)))))
 
   tell-carries : Carries n r (tell n u v d s) (withSent t u (record { destination = v; value = d }) n)
@@ -124,7 +124,7 @@ module _ {n : ℕ} {r s : List ℕ} {t : State} (h : Carries n r s t) (u v : ℕ
   pub kept-carries : u ≢ v → rule.distanceOf t u v ≡ t .distance u v → Carries n r (store n u v (found t u v) s) (rule.recompute t u v)
   kept-carries f e = carries-same (store-carries h u v (found t u v) lu lv f) (rule.recompute t u v) (kept e)
 
-  -- It changes: it is sent on each up link.
+  -- It changes: it is sent on each link with both ends up.
   changed : new .distance ≢ t .distance u v → Same (withSent placed u (record { destination = v; value = new .distance }) n) (rule.recompute t u v)
   unfolding rule.recompute withSent
   changed f = same-queues placed _ _ (λ a b la lb. let l : ltb b n ≡ true = lt-ltb b n (rw (h .orderly .count) at lb) in rw (l, ne-eqb (new .distance) (t .distance u v) f, and-true (rule.sends t u b)))

@@ -5,14 +5,15 @@ use mathlib.Core.List.{List}
 use Prim.Native.Nat.{ℕ, _≤_, _<_}
 use lib.ListN.{length}
 use Rattle.hop_rule.specs.Rule as rule
+use Rattle.hop_rule.specs.Notice as ends
 use Rattle.hop_rule.specs.Stored.{size, nodes, read}
 use Rattle.hop_rule.specs.Calls.{restored}
 use Rattle.hop_laws.specs.Fine.{Fine}
-use Rattle.hop_steps.specs.Steps.{deliver, linkUp, linkDown, make}
+use Rattle.hop_steps.specs.Steps.{deliver, linkUp, notice, linkDown, make}
 use Rattle.hop_counts.specs.Counts.{waitingFor, waitingFrom, queued, reached}
 use Rattle.hop_runs.specs.Runs.{pass, passes, made, delivered, ran, run}
 use Rattle.hop_bridge.proofs.Deliver.{deliver-sound}
-use Rattle.hop_bridge.proofs.Links.{linkUp-carries, linkDown-carries}
+use Rattle.hop_bridge.proofs.Links.{linkUp-carries, notice-carries, linkDown-carries}
 use Rattle.hop_bridge.proofs.Runs.{waitingFor-is, waitingFrom-is, queued-is, reached-is, pass-sound, passes-sound, made-is, delivered-is}
 use Rattle.hop_bridge.proofs.Fresh.{make-carries}
 use Rattle.hop_bridge.proofs.Door.{fine-carries, fine-sound, carried-restored}
@@ -41,7 +42,7 @@ module _ (s : List ℕ) (fine : Fine s) where
 
   -- ---- the events
 
-  -- A delivery from w to u, also from an empty queue or over a down link.
+  -- A delivery from w to u, also from an empty queue or over a link with an end that is down.
   pub deliver-stored : (w u : ℕ) → w < nodes s → u < nodes s → deliver (nodes s) w u s ≡ restored (rule.deliver (read s) w u) s
   deliver-stored w u lw lu = carried-restored s (deliver-sound (fine-sound s fine) w u lw lu .carries)
 
@@ -49,8 +50,12 @@ module _ (s : List ℕ) (fine : Fine s) where
   pub linkUp-stored : (a b : ℕ) → a < nodes s → b < nodes s → linkUp (nodes s) a b s ≡ restored (rule.linkUp (read s) a b) s
   linkUp-stored a b la lb = carried-restored s (linkUp-carries (fine-carries s fine) a b la lb)
 
-  -- or goes down.
-  pub linkDown-stored : (a b : ℕ) → a < nodes s → b < nodes s → linkDown (nodes s) a b s ≡ restored (rule.linkDown (read s) a b) s
+  -- one end notices that it is lost,
+  pub notice-stored : (a b : ℕ) → a < nodes s → b < nodes s → notice (nodes s) a b s ≡ restored (ends.notice (read s) a b) s
+  notice-stored a b la lb = carried-restored s (notice-carries (fine-carries s fine) a b la lb)
+
+  -- or it goes down.
+  pub linkDown-stored : (a b : ℕ) → a < nodes s → b < nodes s → linkDown (nodes s) a b s ≡ restored (ends.linkDown (read s) a b) s
   linkDown-stored a b la lb = carried-restored s (linkDown-carries (fine-carries s fine) a b la lb)
 
   -- A pass; it delivers what was queued at its start, which is `queued-read`.

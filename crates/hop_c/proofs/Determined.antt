@@ -30,6 +30,7 @@ determined = record {
   check = λ s. told-fixed-answer _ _;
   up = λ s a b. told-fixed _;
   down = λ s a b. told-fixed _;
+  notice = λ s a b. told-fixed _;
   deliver = λ s w u. told-fixed _;
   pass = λ s. passed-fixed _;
   run = λ s k. ran-fixed _;

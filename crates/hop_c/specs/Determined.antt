@@ -38,6 +38,7 @@ pub record Determined : Type 1 where
   pub check : (s : List ℕ) → FixedAnswer (λ (number : ℕ). Told call.check s number s)
   pub up : (s : List ℕ) (a b : ℕ) → Fixed (Told (call.up a b) s)
   pub down : (s : List ℕ) (a b : ℕ) → Fixed (Told (call.down a b) s)
+  pub notice : (s : List ℕ) (a b : ℕ) → Fixed (Told (call.notice a b) s)
   pub deliver : (s : List ℕ) (w u : ℕ) → Fixed (Told (call.deliver w u) s)
   pub pass : (s : List ℕ) → Fixed (Passed s)
   pub run : (s : List ℕ) (k : ℕ) → Fixed (Ran k s)
@@ -58,7 +59,7 @@ pub record Determined : Type 1 where
   pub read-next : {S : Type 0} (s : List ℕ) (src : S) (p : ℕ) → Fixed (λ (x : Reading) (left : S × ℕ). ReadsNext s src p x (left .0) (left .1))
   pub read-from : (s : List ℕ) (p : ℕ) → FixedAnswer (λ (x : Step). x ≡ stepAt s p)
 
--- The exports. hop_make, hop_check, hop_up, hop_down and hop_deliver cite the contracts above.
+-- The exports. hop_make, hop_check, hop_up, hop_down, hop_notice and hop_deliver cite the contracts above.
 pub record DeterminedForC : Type 0 where
   pub hop-size : (n : ℕ) → FixedAnswer (λ (r : ℕ). r ≡ sizeOf n)
   pub hop-pass : (s : List ℕ) → Fixed (edge.Answered (outcome call.pass s []))

@@ -227,6 +227,13 @@ pub extern "C" fn hop_down(state: &mut [u8], a: usize, b: usize) -> u32
 }
 
 #[no_mangle]
+pub extern "C" fn hop_notice(state: &mut [u8], noticing: usize, other: usize) -> u32
+    ensures { λ r. ⌜ Told (call.notice noticing other) (now (state .entry)) r (now (state .exit)) ⌝ }
+{
+    hop_core::notice(state, noticing, other)
+}
+
+#[no_mangle]
 pub extern "C" fn hop_deliver(state: &mut [u8], from: usize, to: usize) -> u32
     ensures { λ r. ⌜ Told (call.deliver from to) (now (state .entry)) r (now (state .exit)) ⌝ }
 {

@@ -3,13 +3,13 @@ use mathlib.Core.Path.{_≡_, ap, _∙_}
 use mathlib.Core.List.{List, []}
 use Prim.Native.Nat.{ℕ}
 use Rattle.hop_rule.specs.Stored.{nodes}
-use Rattle.hop_rule.specs.Calls.{Call, make, up, down, deliver, pass, run, judge, refusals, onState, done, outcome}
+use Rattle.hop_rule.specs.Calls.{Call, make, up, down, notice, deliver, pass, run, judge, refusals, onState, done, outcome}
 use Rattle.hop_laws.specs.Fine.{Fine}
 use Rattle.hop_steps.specs.Steps as step
 use Rattle.hop_counts.specs.Counts as counts
 use Rattle.hop_runs.specs.declared.Ran.{Ran}
 use Rattle.hop_runs.specs.Runs as runs
-use Rattle.hop_bridge.proofs.Top.{make-stored, deliver-stored, linkUp-stored, linkDown-stored, pass-stored, queued-read, run-stored, ran-read}
+use Rattle.hop_bridge.proofs.Top.{make-stored, deliver-stored, linkUp-stored, linkDown-stored, notice-stored, pass-stored, queued-read, run-stored, ran-read}
 use Rattle.hop_judge.specs.declared.Judged.{Judged}
 use Rattle.hop_judge.specs.declared.Judged.the-variants.{Go}
 use Rattle.hop_judge.specs.Verdict.{verdict}
@@ -26,7 +26,7 @@ make-done s n e g h = let room = room-made s n e g in ap (told 0) (h ∙ make-st
 -- ---- the events between two nodes
 
 module _ (s : List ℕ) (a b : ℕ) {j : Judged} {n : ℕ} (g : j ≡ Go n) {t : List ℕ} where
-  -- Common to the three: where the step leaves what the call does, the answer is 0.
+  -- Common to the four: where the step leaves what the call does, the answer is 0.
   step-done : (k : Call) (next : ℕ → List ℕ) → j ≡ verdict (judge (refusals k s [])) (nodes s) → told 0 (next (nodes s)) ≡ done k s [] → t ≡ next n → told 0 t ≡ outcome k s []
   step-done k next e left h = ap (told 0) (h ∙ ap next (gone _ _ e g .1)) ∙ left ∙ call-done k s [] (nodes s) e g
 
@@ -41,6 +41,12 @@ module _ (s : List ℕ) (a b : ℕ) {j : Judged} {n : ℕ} (g : j ≡ Go n) {t :
   down-done e =
       let (fine, la, lb) = ends-known s a b _ e g in
       step-done (down a b) (λ m. step.linkDown m a b s) e (ap (told 0) (linkDown-stored s fine a b la lb))
+
+  pub notice-done : j ≡ verdict (judge (refusals (notice a b) s [])) (nodes s) → t ≡ step.notice n a b s → told 0 t ≡ outcome (notice a b) s []
+  unfolding refusals done
+  notice-done e =
+      let (fine, la, lb) = ends-known s a b _ e g in
+      step-done (notice a b) (λ m. step.notice m a b s) e (ap (told 0) (notice-stored s fine a b la lb))
 
   pub deliver-done : j ≡ verdict (judge (refusals (deliver a b) s [])) (nodes s) → t ≡ step.deliver n a b s → told 0 t ≡ outcome (deliver a b) s []
   unfolding refusals done

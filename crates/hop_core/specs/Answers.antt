@@ -10,7 +10,7 @@ use Rattle.hop_core.specs.declared.PassAnswer.the-variants as pass
 use Rattle.hop_core.specs.declared.RunAnswer.{RunAnswer}
 use Rattle.hop_core.specs.declared.RunAnswer.the-variants as run
 
--- make, check, up, down and deliver answer their number only.
+-- make, check, up, down, notice and deliver answer their number only.
 abbrev pub told : ℕ → List ℕ → Outcome
 told c s = record { number = c; answers = []; bytes = s; output = [] }
 

@@ -4,6 +4,7 @@ use hop_judge::Judged;
 use hop_judge::judge_deliver;
 use hop_judge::judge_down;
 use hop_judge::judge_make;
+use hop_judge::judge_notice;
 use hop_judge::judge_state;
 use hop_judge::judge_up;
 ghost use mathlib.Core.Path.{_≡_};
@@ -46,7 +47,7 @@ pub fn check(s: &[u8]) -> u32
     }
 }
 
-// The link between a and b comes up. Refuses 2, 1, 2, 3, 4, 5, 6.
+// The link between a and b, down at both ends, comes up at both. Refuses 2, 1, 2, 3, 4, 5, 6, 13.
 pub fn up(s: &mut [u8], a: usize, b: usize) -> u32
     ensures { λ r. ⌜ Told (call.up a b) (now (s .entry)) r (now (s .exit)) ⌝ }
 {
@@ -59,7 +60,7 @@ pub fn up(s: &mut [u8], a: usize, b: usize) -> u32
     }
 }
 
-// The link between a and b goes down, at both ends at one moment. Refuses 2, 1, 2, 3, 4, 5, 7.
+// The link between a and b goes down, at each end that is still up. Refuses 2, 1, 2, 3, 4, 5, 7.
 pub fn down(s: &mut [u8], a: usize, b: usize) -> u32
     ensures { λ r. ⌜ Told (call.down a b) (now (s .entry)) r (now (s .exit)) ⌝ }
 {
@@ -67,6 +68,19 @@ pub fn down(s: &mut [u8], a: usize, b: usize) -> u32
         Judged::Refused(c) => c,
         Judged::Go(n) => {
             hop_steps::link_down(s, n, a, b);
+            0
+        }
+    }
+}
+
+// 02, R-5: a notices that its link to b is lost; b has its own notice. Refuses 2, 1, 2, 3, 4, 5, 7.
+pub fn notice(s: &mut [u8], a: usize, b: usize) -> u32
+    ensures { λ r. ⌜ Told (call.notice a b) (now (s .entry)) r (now (s .exit)) ⌝ }
+{
+    match judge_notice(s, a, b) {
+        Judged::Refused(c) => c,
+        Judged::Go(n) => {
+            hop_steps::notice(s, n, a, b);
             0
         }
     }

@@ -1,2 +1,3 @@
 pub mod Known
 pub mod Judging
+pub mod Read

@@ -1,5 +1,7 @@
 // Refusals, in document 01's order: each function judges what the one that it calls left open. No byte is changed, and the first byte is read here only.
 
+mod ends;
+
 use hop_cells::get2;
 use hop_cells::nodes;
 use hop_cells::size;
@@ -9,11 +11,11 @@ use hop_sound::is_sound;
 ghost use mathlib.Core.Path.{_≡_};
 ghost use mathlib.Core.List.{[], _∷_};
 ghost use mathlib.Core.Bool.{not};
-ghost use Prim.Native.Nat.{_*_, _-_, _≤_, _<_};
+ghost use Prim.Native.Nat.{_<_};
 ghost use lib.Dec.{eqb};
 ghost use Rattle.hop_rule.specs.Words.{if_then_else_};
 ghost use Rattle.hop_rule.specs.Stored as stored;
-ghost use Rattle.hop_rule.specs.Calls.{judge, refusals, onState, noNode, oneNode, notAtRest, short, make, up, down, deliver, status};
+ghost use Rattle.hop_rule.specs.Calls.{judge, refusals, onState, noNode, oneNode, isUp, notSending, notAtRest, short, make, up, down, notice, deliver, status};
 ghost use Rattle.hop_rule.specs.Worth.{worthRefusals};
 ghost use Rattle.hop_rule.specs.Why.{beforeList};
 ghost use Rattle.hop_cells.specs.Cells.{Room};
@@ -93,19 +95,39 @@ pub fn judge_ends(s: &[u8], a: usize, b: usize) -> Judged
     }
 }
 
-// Link up where it is up 6.
-pub fn judge_up(s: &[u8], a: usize, b: usize) -> Judged
-    ensures { λ r. ⌜ r ≡ verdict (judge (refusals (up a b) (now (s .entry)) [])) (stored.nodes (now (s .entry))) ⌝ }
+// Link up where both ends are up 6,
+fn judge_apart(s: &[u8], a: usize, b: usize) -> Judged
+    ensures { λ r. ⌜ r ≡ verdict (judge (onState (now (s .entry)) (noNode (now (s .entry)) a ∷ noNode (now (s .entry)) b ∷ oneNode a b ∷ isUp (now (s .entry)) a b ∷ []))) (stored.nodes (now (s .entry))) ⌝ }
 {
     match judge_ends(s, a, b) {
-        Judged::Go(n) => unless(get2(s, n, Table::Links, a, b) == 1, 6, n),
+        Judged::Go(n) => unless(ends::both_up(s, n, a, b), 6, n),
         refused => refused,
     }
 }
 
-// Link down or delivery where it is down 7.
+// or where one of them still is 13.
+pub fn judge_up(s: &[u8], a: usize, b: usize) -> Judged
+    ensures { λ r. ⌜ r ≡ verdict (judge (refusals (up a b) (now (s .entry)) [])) (stored.nodes (now (s .entry))) ⌝ }
+{
+    match judge_apart(s, a, b) {
+        Judged::Go(n) => unless(ends::differ(s, n, a, b), 13, n),
+        refused => refused,
+    }
+}
+
+// Link down where both ends are down 7.
 pub fn judge_down(s: &[u8], a: usize, b: usize) -> Judged
     ensures { λ r. ⌜ r ≡ verdict (judge (refusals (down a b) (now (s .entry)) [])) (stored.nodes (now (s .entry))) ⌝ }
+{
+    match judge_ends(s, a, b) {
+        Judged::Go(n) => unless(!ends::either_up(s, n, a, b), 7, n),
+        refused => refused,
+    }
+}
+
+// A notice by an end that is down 7.
+pub fn judge_notice(s: &[u8], a: usize, b: usize) -> Judged
+    ensures { λ r. ⌜ r ≡ verdict (judge (refusals (notice a b) (now (s .entry)) [])) (stored.nodes (now (s .entry))) ⌝ }
 {
     match judge_ends(s, a, b) {
         Judged::Go(n) => unless(get2(s, n, Table::Links, a, b) != 1, 7, n),
@@ -113,11 +135,21 @@ pub fn judge_down(s: &[u8], a: usize, b: usize) -> Judged
     }
 }
 
-// Delivery from an empty queue 8.
+// Delivery where an end is down 7,
+fn judge_sending(s: &[u8], w: usize, u: usize) -> Judged
+    ensures { λ r. ⌜ r ≡ verdict (judge (onState (now (s .entry)) (noNode (now (s .entry)) w ∷ noNode (now (s .entry)) u ∷ oneNode w u ∷ notSending (now (s .entry)) w u ∷ []))) (stored.nodes (now (s .entry))) ⌝ }
+{
+    match judge_ends(s, w, u) {
+        Judged::Go(n) => unless(!ends::both_up(s, n, w, u), 7, n),
+        refused => refused,
+    }
+}
+
+// or from an empty queue 8.
 pub fn judge_deliver(s: &[u8], w: usize, u: usize) -> Judged
     ensures { λ r. ⌜ r ≡ verdict (judge (refusals (deliver w u) (now (s .entry)) [])) (stored.nodes (now (s .entry))) ⌝ }
 {
-    match judge_down(s, w, u) {
+    match judge_sending(s, w, u) {
         Judged::Go(n) => unless(get2(s, n, Table::Lengths, w, u) == 0, 8, n),
         refused => refused,
     }
@@ -161,30 +193,32 @@ fn judge_trial(s: &[u8], trial: &[u8]) -> Judged
     }
 }
 
-// How many pairs n nodes have.
-fn pairs(n: usize) -> usize
-    requires { ⌜ (1 ≤ n) × (n ≤ 40) ⌝ }
-    ensures { λ r. ⌜ (r * 2 ≡ n * (n - 1)) × (r ≤ 780) ⌝ }
-{
-    n * (n - 1) / 2
-}
-
-// or a list with fewer than seven numbers for each pair 2.
+// or a list with fewer than seven numbers for each pair that is tried 2.
 pub fn judge_worth(s: &[u8], trial: &[u8], list: &[i32]) -> Judged
     ensures { λ r. ⌜ r ≡ verdict (judge (worthRefusals (now (s .entry)) (now (trial .entry)) (now (list .entry)))) (stored.nodes (now (s .entry))) ⌝ }
 {
     match judge_trial(s, trial) {
-        Judged::Go(n) => unless(list.len() < 7 * pairs(n), 2, n),
+        Judged::Go(n) => unless(list.len() < 7 * ends::tried(s, n), 2, n),
         refused => refused,
     }
 }
 
-// A reason: two node numbers 4, and a state that is not at rest 12. A list that cannot hold the reason is judged where its length is known.
-pub fn judge_why(s: &[u8], u: usize, v: usize) -> Judged
-    ensures { λ r. ⌜ r ≡ verdict (judge (beforeList u v (now (s .entry)))) (stored.nodes (now (s .entry))) ⌝ }
+// A reason: two node numbers 4, and a state that is not at rest 12,
+fn judge_asked(s: &[u8], u: usize, v: usize) -> Judged
+    ensures { λ r. ⌜ r ≡ verdict (judge (onState (now (s .entry)) (noNode (now (s .entry)) u ∷ noNode (now (s .entry)) v ∷ notAtRest (now (s .entry)) ∷ []))) (stored.nodes (now (s .entry))) ⌝ }
 {
     match judge_pair(s, u, v) {
         Judged::Go(n) => unless_waiting(s, n),
+        refused => refused,
+    }
+}
+
+// or one with a link that has just one end up 13. A list that cannot hold the reason is judged where its length is known.
+pub fn judge_why(s: &[u8], u: usize, v: usize) -> Judged
+    ensures { λ r. ⌜ r ≡ verdict (judge (beforeList u v (now (s .entry)))) (stored.nodes (now (s .entry))) ⌝ }
+{
+    match judge_asked(s, u, v) {
+        Judged::Go(n) => unless(!ends::agree(s, n), 13, n),
         refused => refused,
     }
 }

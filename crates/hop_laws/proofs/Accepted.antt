@@ -11,10 +11,12 @@ use borrow.Author.Tests.{eqb-false, leb-false, ne-eqb, lt-leb, le-ltb}
 use Rattle.hop_rule.specs.State.{State}
 use Rattle.hop_rule.specs.Rule.{total}
 use Rattle.hop_rule.specs.Stored.{size, stored, nodes, readAs, read}
-use Rattle.hop_rule.specs.Sound.{Sound}
-use Rattle.hop_rule.specs.Calls.{check, route, queueLength, totalQueued, Refusal, judge, empty, badCount, short, notSound, noNode, oneNode, onState, refusals, answerAt, answered, done, outcome}
+use Rattle.hop_rule.specs.Sound.{Linked, Sound}
+use Rattle.hop_rule.specs.Calls.{check, route, queueLength, totalQueued, Refusal, judge, empty, badCount, short, notSound, noNode, oneNode, isUp, stillUp, onState, refusals, answerAt, answered, done, outcome}
 use Rattle.hop_laws.specs.Fine.{Fine}
-use Rattle.hop_laws.proofs.Sound.{sound-bytes-tells}
+use Rattle.hop_laws.proofs.Tests.{tells-not-so}
+use Rattle.hop_laws.proofs.Sound.{tells-sends, sound-bytes-tells}
+use Rattle.hop_laws.proofs.Notice.{tells-one-ended, both-down}
 use Rattle.hop_laws.proofs.Stored.{nodes-stored, length-stored}
 use Rattle.hop_laws.proofs.Read.{stored-sound}
 use Rattle.hop_laws.proofs.Ceiling.{none-own}
@@ -31,6 +33,13 @@ ends-known s a b more z =
     let (second, z₂) = judge-none (noNode s b) _ (omega arith) z₁ in
     let (apart, z₃) = judge-none (oneNode a b) _ (omega arith) z₂ in
     (leb-false (nodes s) a first, leb-false (nodes s) b second, eqb-false a b apart, z₃)
+
+-- Two ends where link up is refused with neither 6 nor 13 are both down.
+pub up-known : (s : List ℕ) (a b : ℕ) → judge (isUp s a b ∷ stillUp s a b ∷ []) ≡ 0 → (Linked (read s) a b → ⊥) × (Linked (read s) b a → ⊥)
+up-known s a b z =
+    let (both, z₁) = judge-none (isUp s a b) _ (omega arith) z in
+    let (one, z₂) = judge-none (stillUp s a b) [] (omega arith) z₁ in
+    both-down (read s) a b (tells-not-so (tells-sends (read s) a b) both) (tells-not-so (tells-one-ended (read s) a b) one)
 
 module _ (s : List ℕ) (f : Fine s) where
   -- ---- what is judged

@@ -12,7 +12,7 @@ use borrow.Author.Tests.{eqb-false, ltb-false, not-false}
 use Rattle.hop_rule.specs.Words.{if_then_else_}
 use Rattle.hop_rule.specs.Stored.{size, nodes}
 use Rattle.hop_rule.specs.Sound.{isSoundBytes}
-use Rattle.hop_rule.specs.Calls.{Call, make, check, up, down, deliver, pass, run, route, queueLength, totalQueued, status, writeEvent, Refusal, judge, empty, badCount, short, notSound, onState, refusals, Outcome, answerAt, refused, done, outcome}
+use Rattle.hop_rule.specs.Calls.{Call, make, check, up, down, notice, deliver, pass, run, route, queueLength, totalQueued, status, writeEvent, Refusal, judge, empty, badCount, short, notSound, onState, refusals, Outcome, answerAt, refused, done, outcome}
 use Rattle.hop_laws.specs.Fine.{Fine}
 use Rattle.hop_laws.proofs.Tests.{Tells, tells-false, tells-not-so, tells-eq, tells-lt, tells-or, choose-so, choose-else}
 use Rattle.hop_laws.proofs.Sound.{sound-bytes-tells}
@@ -94,6 +94,7 @@ module _ (c : Call) (s out : List ℕ) where
         | check ↦ refl
         | up a b ↦ refl
         | down a b ↦ refl
+        | notice a b ↦ refl
         | deliver w u ↦ refl
         | pass ↦ refl
         | run k ↦ refl

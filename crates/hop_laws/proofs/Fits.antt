@@ -4,7 +4,7 @@ use Prim.Native.Nat.{ℕ, zero, suc, _+_, _*_, _≤_, _<_}
 use native.Mathlib.Omega.{arith}
 use lib.ListN.{length, getD}
 use Rattle.hop_rule.specs.declared.Event.{Event}
-use Rattle.hop_rule.specs.declared.Event.the-variants.{Make, Up, Down, Deliver, Pass}
+use Rattle.hop_rule.specs.declared.Event.the-variants.{Make, Up, Down, Deliver, Pass, Notice}
 use Rattle.hop_rule.specs.State.{State}
 use Rattle.hop_rule.specs.Sound.{Sound}
 use Rattle.hop_rule.specs.Records.{words, recordOf, bodyOf, eventRecord, statusRecord}
@@ -33,7 +33,7 @@ unfolding eventRecord recordOf bodyOf
 event-bytes e h = words-bytes _ (head, (omega (arith, kind-small e), fit (bodyOf e) h))
   where
     head : 2 + 2 * length (bodyOf e) < 65536
-    head = elim e [ Make n ↦ omega arith | Up a b ↦ omega arith | Down a b ↦ omega arith | Deliver w u ↦ omega arith | Pass ↦ omega arith ]
+    head = elim e [ Make n ↦ omega arith | Up a b ↦ omega arith | Down a b ↦ omega arith | Deliver w u ↦ omega arith | Pass ↦ omega arith | Notice a b ↦ omega arith ]
 
 -- The fields of a status record are never reduced: soundness makes them fit.
 pub status-bytes : (s : State) → Sound s → s .n ≤ 40 → (u : ℕ) → u < s .n → (i : ℕ) → getD (statusRecord s u) i 0 < 256

@@ -32,7 +32,6 @@ module _ (n : ℕ) where
   unfolding fresh
   fresh-sound = record {
     bits = λ u w lu lw. omega arith;
-    symmetric = λ u w lu lw. refl;
     diagonal = λ u lu. refl;
     distances = λ u v lu lv. sym (distance-fresh u v);
     downstreams = λ u v lu lv. leads-fresh u v;

@@ -12,7 +12,7 @@ use lib.ListN.{length, getD, take, drop, length-append, List·getD-eq-default}
 use lib.Seq.{drop-cons, take-at, getD-append-add}
 use borrow.Author.Tests.{ltb-false, eqb-true, not-false, le-ltb, eq-eqb, ne-eqb}
 use Rattle.hop_rule.specs.declared.Event.{Event}
-use Rattle.hop_rule.specs.declared.Event.the-variants.{Make, Up, Down, Deliver, Pass}
+use Rattle.hop_rule.specs.declared.Event.the-variants.{Make, Up, Down, Deliver, Pass, Notice}
 use Rattle.hop_rule.specs.declared.Reading.{Reading}
 use Rattle.hop_rule.specs.declared.Reading.the-variants.{Found, End, Refused}
 use Rattle.hop_rule.specs.State.{State}
@@ -96,34 +96,35 @@ numbers e = (2 + 2 * length (bodyOf e)) ∷ kindOf e ∷ bodyOf e
 pub known-kind : (kind : ℕ) → known kind ≡ true → (e : Event) × (kindOf e ≡ kind)
 unfolding known kindOf
 known-kind kind k =
-    elim (tells-or (tells-eq kind 15) (tells-or (tells-eq kind 16) (tells-or (tells-eq kind 17) (tells-or (tells-eq kind 18) (tells-eq kind 19)))) .shows k) [
+    elim (tells-or (tells-eq kind 15) (tells-or (tells-eq kind 16) (tells-or (tells-eq kind 17) (tells-or (tells-eq kind 18) (tells-or (tells-eq kind 19) (tells-eq kind 20))))) .shows k) [
       | inl z ↦ (Make 0, sym z)
       | inr (inl z) ↦ (Up 0 0, sym z)
       | inr (inr (inl z)) ↦ (Down 0 0, sym z)
       | inr (inr (inr (inl z))) ↦ (Deliver 0 0, sym z)
-      | inr (inr (inr (inr z))) ↦ (Pass, sym z)
+      | inr (inr (inr (inr (inl z)))) ↦ (Pass, sym z)
+      | inr (inr (inr (inr (inr z)))) ↦ (Notice 0 0, sym z)
     ]
 
 module _ (e : Event) where
   pub kind-small : kindOf e < 100
   unfolding kindOf
-  kind-small = elim e [ Make n ↦ omega arith | Up a b ↦ omega arith | Down a b ↦ omega arith | Deliver w u ↦ omega arith | Pass ↦ omega arith ]
+  kind-small = elim e [ Make n ↦ omega arith | Up a b ↦ omega arith | Down a b ↦ omega arith | Deliver w u ↦ omega arith | Pass ↦ omega arith | Notice a b ↦ omega arith ]
 
   known-event : known (kindOf e) ≡ true
   unfolding known kindOf
-  known-event = elim e [ Make n ↦ refl | Up a b ↦ refl | Down a b ↦ refl | Deliver w u ↦ refl | Pass ↦ refl ]
+  known-event = elim e [ Make n ↦ refl | Up a b ↦ refl | Down a b ↦ refl | Deliver w u ↦ refl | Pass ↦ refl | Notice a b ↦ refl ]
 
   pub length-event : lengthOf (kindOf e) ≡ 2 + 2 * length (bodyOf e)
   unfolding lengthOf kindOf bodyOf
-  length-event = elim e [ Make n ↦ refl | Up a b ↦ refl | Down a b ↦ refl | Deliver w u ↦ refl | Pass ↦ refl ]
+  length-event = elim e [ Make n ↦ refl | Up a b ↦ refl | Down a b ↦ refl | Deliver w u ↦ refl | Pass ↦ refl | Notice a b ↦ refl ]
 
   kind-eventAt : (s : List ℕ) (p : ℕ) → kindOf (eventAt (kindOf e) s p) ≡ kindOf e
   unfolding eventOf kindOf
-  kind-eventAt s p = elim e [ Make n ↦ refl | Up a b ↦ refl | Down a b ↦ refl | Deliver w u ↦ refl | Pass ↦ refl ]
+  kind-eventAt s p = elim e [ Make n ↦ refl | Up a b ↦ refl | Down a b ↦ refl | Deliver w u ↦ refl | Pass ↦ refl | Notice a b ↦ refl ]
 
   body-eventAt : (s : List ℕ) (p : ℕ) → bodyOf (eventAt (kindOf e) s p) ≡ wordsAt s p (length (bodyOf e))
   unfolding eventOf kindOf bodyOf
-  body-eventAt s p = elim e [ Make n ↦ refl | Up a b ↦ refl | Down a b ↦ refl | Deliver w u ↦ refl | Pass ↦ refl ]
+  body-eventAt s p = elim e [ Make n ↦ refl | Up a b ↦ refl | Down a b ↦ refl | Deliver w u ↦ refl | Pass ↦ refl | Notice a b ↦ refl ]
 
 eventAt-body : (e : Event) (s : List ℕ) (p : ℕ) → wordsAt s p (length (bodyOf e)) ≡ bodyOf e → eventAt (kindOf e) s p ≡ e
 unfolding eventOf kindOf bodyOf
@@ -132,6 +133,7 @@ eventAt-body (Up a b) s p h = cc
 eventAt-body (Down a b) s p h = cc
 eventAt-body (Deliver w u) s p h = cc
 eventAt-body Pass s p h = refl
+eventAt-body (Notice a b) s p h = cc
 
 length-record : (e : Event) → length (eventRecord e) ≡ 4 + 2 * length (bodyOf e)
 unfolding eventRecord recordOf

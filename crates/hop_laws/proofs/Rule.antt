@@ -1,7 +1,7 @@
 -- Laws of the rule's parts: what recompute finds, what it reads, and which cells each move changes. Distances come first and know nothing of downstreams. Assumes nothing.
 use mathlib.Core.Path.{_≡_, refl, sym, ap, subst, _∙_}
 use mathlib.Core.Logic.{_⊎_, inl, inr, _≢_}
-use mathlib.Core.Bool.{Bool, not, cond, _&&_, _||_}
+use mathlib.Core.Bool.{not, cond, _&&_, _||_}
 use mathlib.Core.List.{List, [], _∷_}
 use Prim.Native.Nat.{ℕ, zero, suc, min, _≤_, _<_}
 use native.Mathlib.Nat.{le-refl}
@@ -10,7 +10,7 @@ use native.Mathlib.Omega.{arith}
 use lib.Dec.{eqb}
 use Rattle.hop_rule.specs.Words.{listed, first}
 use Rattle.hop_rule.specs.State.{State, Entry}
-use Rattle.hop_rule.specs.Rule.{up, sends, least, distanceOf, gives, downstreamOf, send, recompute, hear, deliver, linkUp, cut}
+use Rattle.hop_rule.specs.Rule.{sends, least, distanceOf, gives, downstreamOf, send, recompute, hear, deliver, linkUp}
 use Rattle.hop_rule.specs.Sound.{Sends, Sound}
 use Rattle.hop_laws.specs.Current.{Current}
 use Rattle.hop_laws.proofs.Tests.{Tells, decides, tells-eq, tells-pair, tells-and, tells-or, tells-not, tells-same, tells-as, tells-not-so, choose-so, choose-else}
@@ -279,7 +279,7 @@ pub deliver-none : (s : State) (w u : ℕ) → s .queue w u ≡ [] → deliver s
 unfolding deliver
 deliver-none s w u e = rw (e, deliver)
 
--- ---- a link comes up or goes down
+-- ---- a link comes up, which is done at both of its ends
 
 -- x → y is one of the two directions of the link a, b.
 abbrev pub Between : ℕ → ℕ → ℕ → ℕ → Type 0
@@ -297,7 +297,7 @@ pub record Both {A : Type 0} (a b x y : ℕ) (cell new old : A) : Type 0 where
   pub at : Between a b x y → cell ≡ new
   pub other : (Between a b x y → ⊥) → cell ≡ old
 
-both : {A : Type 0} (a b x y : ℕ) (p q new old : A) → (x ≡ a → p ≡ new) → (x ≡ b → q ≡ new) → Both a b x y (cond (eqb x b && eqb y a) q (cond (eqb x a && eqb y b) p old)) new old
+pub both : {A : Type 0} (a b x y : ℕ) (p q new old : A) → (x ≡ a → p ≡ new) → (x ≡ b → q ≡ new) → Both a b x y (cond (eqb x b && eqb y a) q (cond (eqb x a && eqb y b) p old)) new old
 both {A} a b x y p q new old f g = record {
   at = λ h. go h (decides (tells-pair b a x y));
   other = λ k. choose-else (tells-pair b a x y) _ _ (λ h. k (inr h)) ∙ choose-else (tells-pair a b x y) _ _ (λ h. k (inl h));
@@ -328,15 +328,3 @@ module _ (s : State) (a b x y : ℕ) where
   up-queue =
       let all : ℕ → List Entry = λ u. listed (s .n) (λ v. record { destination = v; value = s .distance u v }) in
       both a b x y (all a) (all b) (all x) (s .queue x y) (λ i. ap all (sym i)) (λ i. ap all (sym i))
-
-  pub cut-link : Both a b x y (cut s a b .link x y) 0 (s .link x y)
-  unfolding cut
-  cut-link = both a b x y 0 0 0 (s .link x y) (λ i. refl) (λ i. refl)
-
-  pub cut-view : (v : ℕ) → Both a b x y (cut s a b .view x y v) (s .n) (s .view x y v)
-  unfolding cut
-  cut-view v = both a b x y (s .n) (s .n) (s .n) (s .view x y v) (λ i. refl) (λ i. refl)
-
-  pub cut-queue : Both a b x y (cut s a b .queue x y) [] (s .queue x y)
-  unfolding cut
-  cut-queue = both a b x y [] [] [] (s .queue x y) (λ i. refl) (λ i. refl)

@@ -34,6 +34,16 @@ same-sym e = record {
   queue = λ w u lw lu. sym (e .queue w u (omega arith) (omega arith));
 }
 
+pub same-trans : {s t r : State} → Same s t → Same t r → Same s r
+same-trans e f = record {
+  n = e .n ∙ f .n;
+  link = λ u w lu lw. e .link u w lu lw ∙ f .link u w (omega (arith, e .n)) (omega (arith, e .n));
+  distance = λ u v lu lv. e .distance u v lu lv ∙ f .distance u v (omega (arith, e .n)) (omega (arith, e .n));
+  downstream = λ u v lu lv. e .downstream u v lu lv ∙ f .downstream u v (omega (arith, e .n)) (omega (arith, e .n));
+  view = λ u w v lu lw lv. e .view u w v lu lw lv ∙ f .view u w v (omega (arith, e .n)) (omega (arith, e .n)) (omega (arith, e .n));
+  queue = λ w u lw lu. e .queue w u lw lu ∙ f .queue w u (omega (arith, e .n)) (omega (arith, e .n));
+}
+
 module _ {s t : State} (e : Same s t) where
   -- Recompute reads only a node's own links, and its views of the one destination.
   pub same-reads : (u v : ℕ) → u < s .n → v < s .n → Alike s t u v
@@ -42,13 +52,12 @@ module _ {s t : State} (e : Same s t) where
   pub sound-same : Sound s → Sound t
   sound-same h = record {
     bits = λ u w lu lw. rw (f .link u w lu lw) (h .bits u w (in-s lu) (in-s lw));
-    symmetric = λ u w lu lw. f .link u w lu lw ∙ h .symmetric u w (in-s lu) (in-s lw) ∙ sym (f .link w u lw lu);
     diagonal = λ u lu. f .link u u lu lu ∙ h .diagonal u (in-s lu);
     distances = λ u v lu lv. current u v lu lv .distance;
     downstreams = λ u v lu lv. current u v lu lv .downstream;
     views = λ u w v lu lw lv. omega (arith, f .view u w v lu lw lv, h .views u w v (in-s lu) (in-s lw) (in-s lv));
     down-views = λ u w v lu lw lv down. f .view u w v lu lw lv ∙ h .down-views u w v (in-s lu) (in-s lw) (in-s lv) (λ k. down (f .link u w lu lw ∙ k)) ∙ e .n;
-    down-queues = λ u w lu lw down. f .queue w u lw lu ∙ h .down-queues u w (in-s lu) (in-s lw) (λ k. down (f .link w u lw lu ∙ k));
+    down-queues = λ u w lu lw down. f .queue w u lw lu ∙ h .down-queues u w (in-s lu) (in-s lw) (λ k. down (f .link w u lw lu ∙ k .0, f .link u w lu lw ∙ k .1));
     lengths = λ u w lu lw. rw (f .queue w u lw lu, ← e .n) (h .lengths u w (in-s lu) (in-s lw));
     differ = λ u w lu lw sends. rw (f .queue w u lw lu) (h .differ u w (in-s lu) (in-s lw) (sends-s lw lu sends));
     below = λ u w lu lw sends.
@@ -73,7 +82,7 @@ module _ {s t : State} (e : Same s t) where
       current u v lu lv = current-alike (same-reads u v (in-s lu) (in-s lv)) (f .distance u v lu lv) (f .downstream u v lu lv) (sound-current h u v (in-s lu) (in-s lv))
 
       sends-s : {w u : ℕ} → w < t .n → u < t .n → Sends t w u → Sends s w u
-      sends-s {w} {u} lw lu sends = e .link w u (in-s lw) (in-s lu) ∙ sends
+      sends-s {w} {u} lw lu sends = (e .link w u (in-s lw) (in-s lu) ∙ sends .0, e .link u w (in-s lu) (in-s lw) ∙ sends .1)
 
   block-same : (k : Table) → block s k ≡ block t k
   unfolding block

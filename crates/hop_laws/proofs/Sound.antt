@@ -60,7 +60,7 @@ pub tells-up : (s : State) (u w : ℕ) → Tells (up s u w) (Linked s u w)
 tells-up s u w = tells-eq (s .link u w) 1
 
 pub tells-sends : (s : State) (w u : ℕ) → Tells (sends s w u) (Sends s w u)
-tells-sends s w u = tells-up s w u
+tells-sends s w u = tells-and (tells-up s w u) (tells-up s u w)
 
 pub tells-leads : (s : State) (u v : ℕ) → Tells (leads s u v) (Leads s u v)
 tells-leads s u v = tells-eq (s .downstream u v) (downstreamOf s u v (s .distance u v))
@@ -72,22 +72,20 @@ t also r = tells-and t r
 pub sound-tells : (s : State) → Tells (isSound s) (Sound s)
 unfolding isSound
 sound-tells s = tells-as
-    (λ h₁₂.
-    let (h₁₁, heard) = h₁₂ in
-    let (h₁₀, values) = h₁₁ in
-    let (h₉, below) = h₁₀ in
-    let (h₈, different) = h₉ in
-    let (h₇, lengths) = h₈ in
-    let (h₆, down-queues) = h₇ in
-    let (h₅, down-views) = h₆ in
-    let (h₄, views) = h₅ in
-    let (h₃, downstreams) = h₄ in
-    let (h₂, distances) = h₃ in
-    let (h₁, diagonal) = h₂ in
-    let (bits, symmetric) = h₁ in
+    (λ h₁₁.
+    let (h₁₀, heard) = h₁₁ in
+    let (h₉, values) = h₁₀ in
+    let (h₈, below) = h₉ in
+    let (h₇, different) = h₈ in
+    let (h₆, lengths) = h₇ in
+    let (h₅, down-queues) = h₆ in
+    let (h₄, down-views) = h₅ in
+    let (h₃, views) = h₄ in
+    let (h₂, downstreams) = h₃ in
+    let (h₁, distances) = h₂ in
+    let (bits, diagonal) = h₁ in
     record {
       bits = bits;
-      symmetric = symmetric;
       diagonal = diagonal;
       distances = distances;
       downstreams = downstreams;
@@ -100,9 +98,8 @@ sound-tells s = tells-as
       values = values;
       heard = heard;
     })
-    (λ h. ((((((((((((h .bits, h .symmetric), h .diagonal), h .distances), h .downstreams), h .views), h .down-views), h .down-queues), h .lengths), h .differ), h .below), h .values), h .heard))
+    (λ h. (((((((((((h .bits, h .diagonal), h .distances), h .downstreams), h .views), h .down-views), h .down-queues), h .lengths), h .differ), h .below), h .values), h .heard))
     (tells-pairs (s .n) (λ u w. tells-le (s .link u w) 1)
-    also tells-pairs (s .n) (λ u w. tells-eq (s .link u w) (s .link w u))
     also tells-every (s .n) (λ u l. tells-eq (s .link u u) 0)
     also tells-pairs (s .n) (λ u v. tells-eq (s .distance u v) (distanceOf s u v))
     also tells-pairs (s .n) (tells-leads s)

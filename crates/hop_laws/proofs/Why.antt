@@ -1,7 +1,7 @@
--- Laws of R-3's reasons and of its call: which reason is given, a path one hop on, and that the call is done or refused. Assumes nothing.
+-- Laws of R-3's reasons and of its call: which reason is given, how long it is, and that the call is done or refused. Assumes nothing.
 use mathlib.Core.Path.{_≡_, refl, ap}
 use mathlib.Core.Logic.{_≢_}
-use mathlib.Core.List.{List, [], _∷_}
+use mathlib.Core.List.{List, []}
 use Prim.Native.Nat.{ℕ, zero, suc, _≤_, _<_}
 use native.Mathlib.Omega.{arith}
 use lib.ListN.{length}
@@ -16,14 +16,6 @@ use Rattle.hop_laws.proofs.Calls.{judged-number}
 -- ---- the reason
 
 module _ (s : State) where
-  pub along-last : (u v : ℕ) → along s u v 0 ≡ u ∷ []
-  unfolding along
-  along-last u v = refl
-
-  pub along-more : (u v h : ℕ) → along s u v (suc h) ≡ u ∷ along s (s .downstream u v) v h
-  unfolding along
-  along-more u v h = refl
-
   pub length-along : (u v h : ℕ) → length (along s u v h) ≡ suc h
   unfolding along
   length-along u v zero = refl

@@ -7,7 +7,7 @@ use Prim.Native.Nat.{ℕ, _<_}
 use native.Mathlib.Omega.{arith}
 use lib.Dec.{eqb}
 use Rattle.hop_rule.specs.declared.Event.{Event}
-use Rattle.hop_rule.specs.declared.Event.the-variants.{Make, Up, Down, Deliver, Pass}
+use Rattle.hop_rule.specs.declared.Event.the-variants.{Make, Up, Down, Deliver, Pass, Notice}
 use Rattle.hop_rule.specs.Words.{if_then_else_}
 use Rattle.hop_rule.specs.Records.{recordOf, kindOf, bodyOf, eventRecord, known, lengthOf, eventOf}
 use Rattle.hop_rule.specs.Calls.{writeEvent, refused, outcome}
@@ -57,6 +57,7 @@ module _ (kind : ℕ) {size : ℕ} (told : size ≡ knownLength kind) where
     of-event (Down a b) = tried-outcome {x = Down first second} out refl
     of-event (Deliver w u) = tried-outcome {x = Deliver first second} out refl
     of-event Pass = tried-outcome {x = Pass} out refl
+    of-event (Notice a b) = tried-outcome {x = Notice first second} out refl
 
     pub known-written : size ≢ 0 → {xs : List ℕ} → numbers first second size ≡ xs → tried (recordOf kind xs) out ≡ wroteEvent kind first second out
     known-written some e =
@@ -67,4 +68,4 @@ module _ (kind : ℕ) {size : ℕ} (told : size ≡ knownLength kind) where
 -- An event's own kind and numbers say the event.
 pub own-written : (e : Event) (out : List ℕ) {p : Numbers} → p ≡ numbersOf e → wroteEvent (p .kind) (p .first) (p .second) out ≡ outcome (writeEvent e) [] out
 unfolding wroteEvent known eventOf kindOf bodyOf
-own-written e out h = ap (λ (p : Numbers). wroteEvent (p .kind) (p .first) (p .second) out) h ∙ elim e [ Make n ↦ refl | Up a b ↦ refl | Down a b ↦ refl | Deliver w u ↦ refl | Pass ↦ refl ]
+own-written e out h = ap (λ (p : Numbers). wroteEvent (p .kind) (p .first) (p .second) out) h ∙ elim e [ Make n ↦ refl | Up a b ↦ refl | Down a b ↦ refl | Deliver w u ↦ refl | Pass ↦ refl | Notice a b ↦ refl ]

@@ -43,6 +43,7 @@ pub fn numbers_of(e: Event) -> Numbers
         Event::Down(a, b) => of_kind(17, a, b),
         Event::Deliver(w, u) => of_kind(18, w, u),
         Event::Pass => of_kind(19, 0, 0),
+        Event::Notice(a, b) => of_kind(20, a, b),
     }
 }
 
@@ -56,6 +57,7 @@ fn length_of(kind: u32) -> u16
         17 => 6,
         18 => 6,
         19 => 2,
+        20 => 6,
         _ => 0,
     }
 }
@@ -171,7 +173,8 @@ fn event_at(kind: u32, s: &[u8], at: usize) -> Event
         16 => Event::Up(word_at(s, at), word_at(s, at + 2)),
         17 => Event::Down(word_at(s, at), word_at(s, at + 2)),
         18 => Event::Deliver(word_at(s, at), word_at(s, at + 2)),
-        _ => Event::Pass,
+        19 => Event::Pass,
+        _ => Event::Notice(word_at(s, at), word_at(s, at + 2)),
     }
 }
 
@@ -204,6 +207,7 @@ fn read_record(s: &[u8], place: usize) -> Reading
         17 => read_known(17, s, place),
         18 => read_known(18, s, place),
         19 => read_known(19, s, place),
+        20 => read_known(20, s, place),
         _ => Reading::Refused(10),
     }
 }

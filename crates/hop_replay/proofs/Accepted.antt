@@ -8,7 +8,7 @@ use native.Mathlib.Omega.{arith}
 use lib.ListN.{length}
 use borrow.Author.Tests.{ltb-false, le-ltb}
 use Rattle.hop_rule.specs.declared.Event.{Event}
-use Rattle.hop_rule.specs.declared.Event.the-variants.{Make, Up, Down, Deliver, Pass}
+use Rattle.hop_rule.specs.declared.Event.the-variants.{Make, Up, Down, Deliver, Pass, Notice}
 use Rattle.hop_rule.specs.declared.Reading.{Reading}
 use Rattle.hop_rule.specs.declared.Reading.the-variants.{Found, End, Refused}
 use Rattle.hop_rule.specs.Rule.{total}
@@ -74,6 +74,7 @@ module _ (s : List ℕ) (few : length s < 8) where
       go (Down a b) j = not-fine (state-fine s _ j .0)
       go (Deliver w u) j = not-fine (state-fine s _ j .0)
       go Pass j = not-fine (state-fine s _ j .0)
+      go (Notice a b) j = not-fine (state-fine s _ j .0)
 
   pub short-routes : routes s ≡ []
   short-routes = routes-none s (λ z. not-fine (accepted-fine s z))

@@ -1,5 +1,5 @@
 -- The text has at most 92,072 bytes: a header of 23, 4,097 event lines of 17, and 1,600 `d` lines of 14. Assumes nothing.
-use mathlib.Core.Path.{_≡_, refl, subst, _∙_}
+use mathlib.Core.Path.{_≡_, refl, subst}
 use mathlib.Core.Logic.{_⊎_, inl, inr}
 use mathlib.Core.Bool.{Bool, true, false, cond, not}
 use mathlib.Core.List.{List, [], _∷_}
@@ -10,7 +10,7 @@ use native.Mathlib.Omega.{arith}
 use lib.Dec.{eqb, ltb}
 use lib.ListN.{length, take, length-append, length-take}
 use Rattle.hop_rule.specs.declared.Event.{Event}
-use Rattle.hop_rule.specs.declared.Event.the-variants.{Make, Up, Down, Deliver, Pass}
+use Rattle.hop_rule.specs.declared.Event.the-variants.{Make, Up, Down, Deliver, Pass, Notice}
 use Rattle.hop_rule.specs.declared.Reading.{Reading}
 use Rattle.hop_rule.specs.declared.Reading.the-variants.{Found, End, Refused}
 use Rattle.hop_rule.specs.Words.{joined}
@@ -51,12 +51,13 @@ judge-most m (r ∷ rs) h = go (r .applies) (judge-most m rs (h .1))
 number-small : (e : Event) (s : List ℕ) → outcome (callOf e) s [] .number < 100
 unfolding refusals callOf
 number-small e s =
-    let most : judge (refusals (callOf e) s []) ≤ 8 = judge-most 8 _ (elim e [
+    let most : judge (refusals (callOf e) s []) ≤ 13 = judge-most 13 _ (elim e [
       | Make n ↦ omega arith
       | Up a b ↦ omega arith
       | Down a b ↦ omega arith
       | Deliver w u ↦ omega arith
       | Pass ↦ omega arith
+      | Notice a b ↦ omega arith
     ]) in
     omega (arith, outcome-number (callOf e) s [])
 

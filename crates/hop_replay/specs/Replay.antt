@@ -4,14 +4,14 @@ use Prim.Native.Nat.{ℕ, zero, suc}
 use lib.Dec.{eqb}
 use lib.ListN.{length, take, replicate}
 use Rattle.hop_rule.specs.declared.Event.{Event}
-use Rattle.hop_rule.specs.declared.Event.the-variants.{Make, Up, Down, Deliver, Pass}
+use Rattle.hop_rule.specs.declared.Event.the-variants.{Make, Up, Down, Deliver, Pass, Notice}
 use Rattle.hop_rule.specs.declared.Reading.the-variants.{Found, End, Refused}
 use Rattle.hop_rule.specs.Words.{if_then_else_, joined}
 use Rattle.hop_rule.specs.State.{State}
 use Rattle.hop_rule.specs.Route.{route}
 use Rattle.hop_rule.specs.Stored.{read}
 use Rattle.hop_rule.specs.Records.{kindOf, readEvent}
-use Rattle.hop_rule.specs.Calls.{Call, make, check, up, down, deliver, pass, totalQueued, answerAt, outcome}
+use Rattle.hop_rule.specs.Calls.{Call, make, check, up, down, notice, deliver, pass, totalQueued, answerAt, outcome}
 use Rattle.hop_text.specs.Text.{header, eventLine, routeLine}
 
 -- The call that an event asks for.
@@ -21,6 +21,7 @@ callOf (Up a b) = up a b
 callOf (Down a b) = down a b
 callOf (Deliver w u) = deliver w u
 callOf Pass = pass
+callOf (Notice a b) = notice a b
 
 -- The total queued, as asking for it answers.
 unfoldable pub queued : List ℕ → ℕ

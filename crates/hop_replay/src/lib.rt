@@ -45,6 +45,7 @@ fn apply(state: &mut [u8], e: Event) -> u32
         Event::Down(a, b) => hop_core::down(state, a as usize, b as usize),
         Event::Deliver(w, u) => hop_core::deliver(state, w as usize, u as usize),
         Event::Pass => number_of(hop_core::pass(state)),
+        Event::Notice(a, b) => hop_core::notice(state, a as usize, b as usize),
     }
 }
 

@@ -1,23 +1,21 @@
 -- What a call leaves of an accepted buffer is accepted: refused, or asked, it is as it was; changed, a sound state of 1 to 40 nodes is stored there. Assumes nothing.
 use mathlib.Core.Path.{_≡_, refl, sym, _∙_}
-use mathlib.Core.List.{List, []}
+use mathlib.Core.List.{List}
 use Prim.Native.Nat.{ℕ}
 use native.Mathlib.Decide.{ℕ-discrete}
 use native.Mathlib.Omega.{arith}
-use borrow.Author.Tests.{eqb-false}
 use Rattle.hop_rule.specs.State.{State}
 use Rattle.hop_rule.specs.Rule.{fresh, linkUp, made}
 use Rattle.hop_rule.specs.Stored.{nodes, readAs, read}
 use Rattle.hop_rule.specs.Sound.{Sound}
-use Rattle.hop_rule.specs.Calls.{Call, make, check, up, down, deliver, pass, run, route, queueLength, totalQueued, status, writeEvent, badCount, isUp, judge, refusals, restored, done, outcome}
+use Rattle.hop_rule.specs.Calls.{Call, make, check, up, down, notice, deliver, pass, run, route, queueLength, totalQueued, status, writeEvent, badCount, judge, refusals, restored, done, outcome}
 use Rattle.hop_laws.specs.Fine.{Fine}
 use Rattle.hop_laws.proofs.Fresh.{fresh-sound}
 use Rattle.hop_laws.proofs.Calls.{judge-none, good-count, outcome-done, outcome-refused, outcome-number}
-use Rattle.hop_laws.proofs.Accepted.{accepted-fine, ends-known, fine-accepted, stored-fine}
+use Rattle.hop_laws.proofs.Accepted.{accepted-fine, ends-known, up-known, fine-accepted, stored-fine}
 use Rattle.hop_rest.specs.Accepted.{AcceptedStays, MadeAccepted}
 use Rattle.hop_rest.proofs.Frame.{deliver-n}
-use Rattle.hop_rest.proofs.Kept.{deliver-keeps-sound, down-keeps-sound, up-keeps-sound, pass-keeps-sound, passes-keeps-sound}
-use Rattle.hop_rest.proofs.Same.{down-n}
+use Rattle.hop_rest.proofs.Kept.{deliver-keeps-sound, notice-n, notice-keeps-sound, down-n, down-keeps-sound, up-keeps-sound, pass-keeps-sound, passes-keeps-sound}
 
 made-fine : (n : ℕ) (s out : List ℕ) → judge (refusals (make n) s out) ≡ 0 → Fine (done (make n) s out .bytes)
 unfolding refusals done fresh
@@ -36,8 +34,10 @@ module _ (s : List ℕ) (f : Fine s) where
   done-fine (make n) out z = made-fine n s out z
   done-fine (up a b) out z =
       let (la, lb, apart, last) = ends-known s a b _ z in
-      next-fine (up-keeps-sound (read s) a b sound la lb apart (eqb-false _ 1 (judge-none (isUp s a b) [] (omega arith) last .0))) refl
+      let (first, second) = up-known s a b last in
+      next-fine (up-keeps-sound (read s) a b sound la lb apart first second) refl
   done-fine (down a b) out z = let (la, lb, apart, last) = ends-known s a b _ z in next-fine (down-keeps-sound (read s) a b sound la lb) (down-n (read s) a b)
+  done-fine (notice a b) out z = let (la, lb, apart, last) = ends-known s a b _ z in next-fine (notice-keeps-sound (read s) a b sound la) (notice-n (read s) a b)
   done-fine (deliver w u) out z = let (lw, lu, apart, last) = ends-known s w u _ z in next-fine (deliver-keeps-sound (read s) w u sound lw lu) (deliver-n (read s) w u)
   done-fine pass out z = let (o, e) = pass-keeps-sound (read s) sound in next-fine o e
   done-fine (run k) out z = let (o, e) = passes-keeps-sound (read s) (made (read s) k) sound in next-fine o e

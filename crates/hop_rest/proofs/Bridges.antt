@@ -1,37 +1,60 @@
--- One link more, as R-1 tries it: t has the links of s and that of a and b besides. No hop count is larger in t, and that of a and b is smaller. Where s joins a and b, it joins all that t joins, going round; where it does not, the link joins pairs and shortens no route of s. Assumes nothing.
-use mathlib.Core.Path.{_≡_, refl, sym, subst, _∙_}
+-- One link more, as R-1 tries it: t has the links of s and that of a and b besides, and trusts the views that s does. Each trail of s is one of t, so that at rest no distance is larger in t, whatever links have just one end up. Of hop counts that of a and b is smaller in t; where s joins a and b, it joins all that t joins, going round; where it does not, the link joins pairs and shortens no route of s. Assumes nothing.
+use mathlib.Core.Path.{_≡_, refl, sym, ap, subst, _∙_}
 use mathlib.Core.Logic.{_⊎_, inl, inr, _≢_}
 use Prim.Native.Nat.{ℕ, suc, _≤_, _<_}
 use native.Mathlib.Nat.{le-refl, le-of-eq}
+use native.Mathlib.Decide.{decLt}
 use native.Mathlib.Omega.{arith}
 use Rattle.hop_rule.specs.State.{State}
 use Rattle.hop_rule.specs.Worth.{lost, hops}
 use Rattle.hop_laws.proofs.Tests.{decides}
-use Rattle.hop_laws.proofs.Rule.{Between, tells-between, Both}
+use Rattle.hop_laws.proofs.Rule.{Between, tells-between, between-back, Both}
 use Rattle.hop_rest.specs.Walks.{Walk, here, hop, HopCount, joined, apart}
-use Rattle.hop_rest.proofs.Walks.{Reaches, reaches-on, reaches-back, More, hop-count-more, hop-count-linked, hop-count-unlinked}
+use Rattle.hop_rest.specs.Right.{Trail, arrives, steps, trusts, Right}
+use Rattle.hop_rest.proofs.Walks.{Reaches, reaches-on, reaches-back, hop-count-linked, hop-count-unlinked}
 use Rattle.hop_rest.proofs.Changes.{NoLarger, no-longer, lost-some, lost-none, hops-less, smaller-shows}
 
--- Over n nodes t has the link of a and b, s has not, and all others are the same.
+-- Over n nodes t has the link of a and b at both ends, s at neither, and all others are the same, with the views on them.
 pub record Adds (n : ℕ) (s t : State) (a b : ℕ) : Type 0 where
   pub nodes : s .n ≡ n
   pub nodes-too : t .n ≡ n
   pub ascends : a < b
   pub inside : b < n
   pub links : (x y : ℕ) → Both a b x y (t .link x y) 1 (s .link x y)
-  pub unlinked : s .link a b ≢ 1
-  pub symmetric : (x y : ℕ) → x < s .n → y < s .n → s .link x y ≡ s .link y x
+  pub unlinked : (x y : ℕ) → Between a b x y → s .link x y ≢ 1
+  pub views : (x y v : ℕ) → (Between a b x y → ⊥) → t .view x y v ≡ s .view x y v
 
 module _ {n : ℕ} {s t : State} {a b : ℕ} (adds : Adds n s t a b) where
   low : a < n
   low = omega (arith, adds .ascends, adds .inside)
 
-  more : More s t
-  more = record { nodes = adds .nodes-too ∙ sym (adds .nodes); links = λ x y lx ly q. still x y q (decides (tells-between a b x y)) }
+  in-t : {x : ℕ} → x < s .n → x < t .n
+  in-t l = omega (arith, adds .nodes, adds .nodes-too)
+
+  in-s : {x : ℕ} → x < t .n → x < s .n
+  in-s l = omega (arith, adds .nodes, adds .nodes-too)
+
+  -- ---- trails of s, seen from t
+
+  -- An end that is up in s is up in t.
+  still : {x y : ℕ} → s .link x y ≡ 1 → t .link x y ≡ 1
+  still {x} {y} q = adds .links x y .other (λ h. adds .unlinked x y h q) ∙ q
+
+  trail-more : {u v d : ℕ} → Trail s u v d → Trail t u v d
+  trail-more arrives = arrives
+  trail-more (steps {u = u} {w = w} lu lw q p) = steps {u = u} {w = w} (in-t lu) (in-t lw) (still (q .0), still (q .1)) (trail-more p)
+  trail-more (trusts {u = u} {w = w} {v = v} lu lw q f) =
+      let off : Between a b u w → ⊥ = λ h. adds .unlinked u w h q in
+      let same : t .link w u ≡ s .link w u = adds .links w u .other (λ h. off (between-back h)) in
+      subst (Trail t u v) (ap suc (adds .views u w v off)) (trusts {u = u} {w = w} (in-t lu) (in-t lw) (still q) (λ k. f (sym same ∙ k)))
+
+  -- So a distance that is right for t is at most one that is right for s.
+  pub no-larger : {d e : ℕ → ℕ → ℕ} → ((u v : ℕ) → u < n → v < n → Right s n (d u v) u v) → ((u v : ℕ) → u < n → v < n → Right t n (e u v) u v) → ((u v : ℕ) → u < n → v < n → e u v ≤ n) → NoLarger n d e
+  no-larger {d} {e} right right-too most u v lu lv = go (decLt (d u v) n)
     where
-      still : (x y : ℕ) → s .link x y ≡ 1 → Dec (Between a b x y) → t .link x y ≡ 1
-      still x y q (yes h) = adds .links x y .at h
-      still x y q (no f) = adds .links x y .other f ∙ q
+      go : Dec (d u v < n) → e u v ≤ d u v
+      go (yes l) = right-too u v lu lv .least (d u v) l (trail-more (right u v lu lv .trail l))
+      go (no f) = omega (arith, most u v lu lv)
 
   -- ---- walks of t, seen from s
 
@@ -60,7 +83,7 @@ module _ {n : ℕ} {s t : State} {a b : ℕ} (adds : Adds n s t a b) where
   crossing (hop {u = x} {w = w} {v = y} {d = d} lx lw k rest) = step (decides (tells-between a b x w)) (crossing rest)
     where
       stay : (Between a b x w → ⊥) → {v c : ℕ} → Walk s w v c → Walk s x v (suc c)
-      stay f r = hop {u = x} {w = w} (omega (arith, adds .nodes, adds .nodes-too)) (omega (arith, adds .nodes, adds .nodes-too)) (sym (adds .links x w .other f) ∙ k) r
+      stay f r = hop {u = x} {w = w} (in-s lx) (in-s lw) (sym (adds .links x w .other f) ∙ k .0, sym (adds .links w x .other (λ h. f (between-back h))) ∙ k .1) r
 
       cross : Between a b x w → Within w y d → Crosses x y (suc d)
       cross h (c, l, r) = record { p = x; q = w; ends = h; out = (0, here); on = (c, omega arith, r) }
@@ -74,7 +97,7 @@ module _ {n : ℕ} {s t : State} {a b : ℕ} (adds : Adds n s t a b) where
           elim (ends-meet h (z .ends)) [ inl e ↦ inr (cross h (c, l, subst (λ v. Walk s v y c) e r)) | inr e ↦ inl (c, omega arith, subst (λ v. Walk s v y c) e r) ]
 
   back : {x y : ℕ} → Reaches s x y → Reaches s y x
-  back (d, r) = reaches-back (adds .symmetric) r
+  back (d, r) = reaches-back r
 
   on : {x y z : ℕ} → Reaches s x y → Reaches s y z → Reaches s x z
   on (d, r) k = reaches-on r k
@@ -116,20 +139,17 @@ module _ {n : ℕ} {s t : State} {a b : ℕ} (adds : Adds n s t a b) where
 
   -- ---- the tables of hop counts
 
-  module _ {d e : ℕ → ℕ → ℕ} (counts : (u v : ℕ) → u < n → v < n → HopCount s u v (d u v)) (counts-too : (u v : ℕ) → u < n → v < n → HopCount t u v (e u v)) where
-    pub no-larger : NoLarger n d e
-    no-larger u v lu lv = hop-count-more more (counts u v lu lv) (counts-too u v lu lv)
-
+  module _ {d e : ℕ → ℕ → ℕ} (counts : (u v : ℕ) → u < n → v < n → HopCount s u v (d u v)) (counts-too : (u v : ℕ) → u < n → v < n → HopCount t u v (e u v)) (larger : NoLarger n d e) where
     -- Its ends are one hop apart with it, and further without.
     near : e a b ≤ 1
-    near = hop-count-linked (omega (arith, adds .nodes-too, adds .ascends, adds .inside)) (rw (adds .nodes-too) (adds .inside)) (adds .links a b .at (inl (refl, refl))) (counts-too a b low (adds .inside))
+    near = hop-count-linked (rw (adds .nodes-too) low) (rw (adds .nodes-too) (adds .inside)) (adds .links a b .at (inl (refl, refl)), adds .links b a .at (inr (refl, refl))) (counts-too a b low (adds .inside))
 
     far : 1 < d a b
-    far = hop-count-unlinked (omega (arith, adds .nodes, adds .ascends, adds .inside)) (λ i. omega (arith, adds .ascends)) (adds .unlinked) (counts a b low (adds .inside))
+    far = hop-count-unlinked (omega (arith, adds .nodes, adds .ascends, adds .inside)) (λ i. omega (arith, adds .ascends)) (λ q. adds .unlinked a b (inl (refl, refl)) (q .0)) (counts a b low (adds .inside))
 
     -- So that the link is seen: it joins a pair, or shortens a route.
     pub link-shows : (0 < lost n e d) ⊎ (hops n e d < hops n d e)
-    link-shows = smaller-shows n d e (no-longer no-larger) a b low (adds .inside) (omega (arith, near, adds .ascends, adds .inside)) (omega (arith, near, far))
+    link-shows = smaller-shows n d e (no-longer larger) a b low (adds .inside) (omega (arith, near, adds .ascends, adds .inside)) (omega (arith, near, far))
 
     -- One that joins no pair is not the only way between its ends;
     pub another-way : lost n e d ≡ 0 → Reaches s a b
@@ -146,10 +166,10 @@ module _ {n : ℕ} {s t : State} {a b : ℕ} (adds : Adds n s t a b) where
     only-way some r = some (lost-none n e d (λ u v lu lv. counted-too r (counts u v lu lv) (counts-too u v lu lv)))
 
     pub keeps-distance : lost n e d ≢ 0 → (u v : ℕ) → u < n → v < n → d u v < n → e u v < n → d u v ≡ e u v
-    keeps-distance some u v lu lv l k = omega (arith, no-larger u v lu lv, counted-same (only-way some) (counts u v lu lv) (counts-too u v lu lv) l k)
+    keeps-distance some u v lu lv l k = omega (arith, larger u v lu lv, counted-same (only-way some) (counts u v lu lv) (counts-too u v lu lv) l k)
 
     pub never-both : lost n e d ≢ 0 → hops n e d ≡ hops n d e
     never-both some =
-        let fewer = hops-less n d e (no-longer no-larger) in
+        let fewer = hops-less n d e (no-longer larger) in
         let more = hops-less n e d (λ u v lu lv l k. le-of-eq (keeps-distance some u v lu lv k l)) in
         omega (arith, fewer, more)

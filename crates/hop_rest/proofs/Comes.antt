@@ -19,7 +19,8 @@ cubed n m l = omega arith
 
 pub comes-to-rest : EverySoundStateRests
 comes-to-rest s o = record {
-  settles = λ ps h l. let e = passes-settle s o ps h in rest-settled s _ (e .over) (e .rest l);
+  rests = λ ps h l. passes-settle s o ps h .rest l;
+  settles = λ agree ps h l. let e = passes-settle s o ps h in rest-settled s _ (e .over) (e .rest l) agree;
   deliveries-most = λ ps h. cubed (s .n) (s .n - 1) (passes-settle s o ps h .few);
   waiting-most = λ qs l. over-total (deliveries-over s s qs (over-self o) l);
   waiting-for-most = λ qs l u lu.
@@ -28,5 +29,6 @@ comes-to-rest s o = record {
   pass-ascends = (ascending-pass s, ascending-deliveries s);
   made-most = made-most s o;
   delivered-most = λ k. cubed (s .n) (s .n - 1) (delivered-most s o k);
-  run-settles = λ k l. let r = made-rest s o k l in (rest-settled s _ (passes-over s o (made s k) (made-most s o k)) r, rest-total _ r);
+  run-rests = λ k l. rest-total _ (made-rest s o k l);
+  run-settles = λ agree k l. rest-settled s _ (passes-over s o (made s k) (made-most s o k)) (made-rest s o k l) agree;
 }

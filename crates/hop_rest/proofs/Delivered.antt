@@ -1,7 +1,7 @@
 -- The rule's `deliver` is a delivery as `Delivered` has it; and what follows from the parts: what waits in front stays in front, no other queue gets shorter, and it stays if no distance changed. Assumes nothing.
-use mathlib.Core.Path.{_≡_, sym, subst, _∙_}
+use mathlib.Core.Path.{_≡_, refl, sym, ap, subst, _∙_}
 use mathlib.Core.Logic.{_⊎_, inl, inr, _≢_}
-use mathlib.Core.List.{List, _∷_}
+use mathlib.Core.List.{List, [], _∷_}
 use Prim.Native.Nat.{ℕ, _≤_, _<_}
 use native.Mathlib.Nat.{le-refl}
 use native.Mathlib.Decide.{ℕ-discrete}
@@ -9,13 +9,15 @@ use native.Mathlib.Omega.{arith}
 use lib.ListN.{length, take}
 use Rattle.hop_rule.specs.State.{State, Entry}
 use Rattle.hop_rule.specs.Rule.{send, deliver}
-use Rattle.hop_rule.specs.Sound.{Sends, Waits, Each}
+use Rattle.hop_rule.specs.Sound.{Linked, Sends, Waits, Each}
 use Rattle.hop_laws.proofs.Tests.{tells-eq, tells-and, decides}
 use Rattle.hop_laws.proofs.Sound.{tells-sends}
+use Rattle.hop_laws.proofs.Rule.{deliver-none}
 use Rattle.hop_laws.proofs.Queues.{send-length, send-front}
 use Rattle.hop_rest.specs.Delivered.{Over, Delivered}
 use Rattle.hop_rest.proofs.Frame.{deliver-n, deliver-link, deliver-view-other, deliver-distance-other, deliver-queue-other, deliver-view-learnt, deliver-queue-left, deliver-queue-sent, deliver-queue-quiet}
-use Rattle.hop_rest.proofs.Kept.{waiting-sends, sends-linked, waiting-below, deliver-keeps-sound}
+use Rattle.hop_rest.proofs.Kept.{waiting-sends, waiting-below, deliver-keeps-sound}
+use Rattle.hop_rest.proofs.Right.{over-sends, sends-over}
 
 -- ---- the rule's delivery from a queue that is not empty
 
@@ -24,31 +26,39 @@ deliver-over g s w u o lw lu = record {
   sound = deliver-keeps-sound s w u (o .sound) (omega arith) (omega arith);
   nodes = deliver-n s w u ∙ o .nodes;
   links = λ a b la lb. deliver-link s w u a b ∙ o .links a b la lb;
+  trusted = λ a b c la lb lc f. stays (s .queue w u) refl a b c la lb f ∙ o .trusted a b c la lb lc f;
 }
+  where
+    -- Nothing is heard over a link whose other end is down, as nothing waits there.
+    stays : (q : List Entry) → s .queue w u ≡ q → (a b c : ℕ) → a < g .n → b < g .n → (Linked g b a → ⊥) → deliver s w u .view a b c ≡ s .view a b c
+    stays [] e a b c la lb f = ap (λ t. t .view a b c) (deliver-none s w u e)
+    stays (head ∷ rest) e a b c la lb f =
+        let q = waiting-sends s w u (o .sound) (omega arith) (omega arith) head rest e in
+        deliver-view-other s w u a b c (λ i j. absurd (f (rw (i, j) (sym (o .links w u lw lu) ∙ q .0))))
 
 pub deliver-delivered : (g s : State) (w u : ℕ) → Over g s → w < g .n → u < g .n → (e : Entry) (q : List Entry) → s .queue w u ≡ e ∷ q → Delivered g s w u (deliver s w u)
 deliver-delivered g s w u o lw lu e q waited = record {
   sender = lw;
   receiver = lu;
-  linked = sym (o .links u w lu lw) ∙ sends-linked w u (o .sound) (omega arith) (omega arith) sends;
+  linked = sends-over g s o w u lw lu sends;
   head = e;
   rest = q;
   waited = waited;
   left = deliver-queue-left s w u e q waited apart;
   learnt = deliver-view-learnt s w u e q waited ∙ value;
   recomputed = deliver-over g s w u o lw lu;
-  sent = λ f x lx k. deliver-queue-sent s w u e q waited apart x (o .links u x lu lx ∙ k) f;
+  sent = λ f x lx k. deliver-queue-sent s w u e q waited apart x (over-sends g s o u x lu lx k) f;
   quiet = λ f x lx k. deliver-queue-quiet s w u e q waited apart x f;
   views = λ a b c la lb lc f. deliver-view-other s w u a b c (λ i j k. f i j (rw waited at k));
   distances = λ a c la lc f. deliver-distance-other s w u a c (λ i k. f i (rw waited at k));
-  queues = λ a b la lb f k. deliver-queue-other s w u a b f (λ i l. k i (sym (o .links u b lu lb) ∙ l));
+  queues = λ a b la lb f k. deliver-queue-other s w u a b f (λ i l. k i (sends-over g s o u b lu lb l));
 }
   where
     sends : Sends s w u
     sends = waiting-sends s w u (o .sound) (omega arith) (omega arith) e q waited
 
     apart : w ≢ u
-    apart i = omega (arith, subst (λ (x : ℕ). Sends s x u) i sends, o .sound .diagonal u (omega arith))
+    apart i = omega (arith, subst (λ (x : ℕ). Sends s x u) i sends .0, o .sound .diagonal u (omega arith))
 
     value : e .value ≡ s .distance w (e .destination)
     value = subst (Each (λ f. f .value ≡ s .distance w (f .destination))) waited (o .sound .values u w (omega arith) (omega arith) sends) .0
@@ -58,7 +68,7 @@ deliver-delivered g s w u o lw lu e q waited = record {
 module _ (g s : State) (w u : ℕ) (t : State) (o : Over g s) (d : Delivered g s w u t) where
   pub apart : w ≢ u
   apart i =
-      let q : s .link u u ≡ 1 = o .links u u (d .receiver) (d .receiver) ∙ subst (λ (x : ℕ). g .link u x ≡ 1) i (d .linked) in
+      let q : s .link u u ≡ 1 = o .links u u (d .receiver) (d .receiver) ∙ subst (λ (x : ℕ). Sends g x u) i (d .linked) .0 in
       omega (arith, o .sound .diagonal u (omega arith))
 
   pub destination-below : d .head .destination < g .n

@@ -8,14 +8,16 @@ use native.Mathlib.Decide.{ℕ-discrete, decLt}
 use native.Mathlib.Omega.{arith}
 use lib.ListN.{length, drop}
 use lib.Seq.{drop-at}
-use borrow.Author.Tests.{eq-eqb, ne-eqb}
+use borrow.Author.Tests.{ne-eqb}
 use Rattle.hop_rule.specs.State.{State}
 use Rattle.hop_rule.specs.Rule as rule
 use Rattle.hop_rule.specs.Stored.{size, stored, nodes, readAs, read}
-use Rattle.hop_rule.specs.Calls.{check, deliver, queueLength, totalQueued, Refusal, judge, isDown, nothingWaits, refusals, restored, done, outcome}
+use Rattle.hop_rule.specs.Sound.{Sends}
+use Rattle.hop_rule.specs.Calls.{check, deliver, queueLength, totalQueued, Refusal, judge, notSending, nothingWaits, refusals, restored, done, outcome}
 use Rattle.hop_laws.specs.Same.{Same}
 use Rattle.hop_laws.specs.Fine.{Fine}
 use Rattle.hop_laws.proofs.Tests.{tells-eq, tells-and, decides}
+use Rattle.hop_laws.proofs.Sound.{tells-sends}
 use Rattle.hop_laws.proofs.Stored.{length-stored}
 use Rattle.hop_laws.proofs.Same.{stored-same}
 use Rattle.hop_laws.proofs.Read.{stored-read}
@@ -23,16 +25,16 @@ use Rattle.hop_laws.proofs.Ceiling.{total-most}
 use Rattle.hop_laws.proofs.Calls.{judge-next, outcome-done, outcome-refused, outcome-number}
 use Rattle.hop_laws.proofs.Accepted.{accepted-fine, ends-known, fine-ends, fine-accepted, fine-total, fine-length, fine-length-nodes}
 use Rattle.hop_rest.specs.Orders.{Queue, Nodes, deliveries, count, Pass, Passes, after}
-use Rattle.hop_rest.specs.OnBytes.{asked, SettledBytes, delivery, delivering, NoneRefused, PassBytes, PassesBytes, DeliveriesSettle}
+use Rattle.hop_rest.specs.OnBytes.{asked, RestedBytes, SettledBytes, delivery, delivering, NoneRefused, PassBytes, PassesBytes, DeliveriesSettle}
 use Rattle.hop_rest.specs.Delivered.{Over, Delivered, Within}
 use Rattle.hop_rest.proofs.Frame.{deliver-n}
-use Rattle.hop_rest.proofs.Right.{over-self}
+use Rattle.hop_rest.proofs.Right.{over-self, over-sends}
 use Rattle.hop_rest.proofs.Delivered.{deliver-over}
 use Rattle.hop_rest.proofs.Runs.{count-at, count-other, within-first, deliveries-over}
 use Rattle.hop_rest.proofs.Ascending.{deliveries-both}
 use Rattle.hop_rest.proofs.Same.{deliver-same}
 use Rattle.hop_rest.proofs.Settling.{passes-settle}
-use Rattle.hop_rest.proofs.OnBytes.{over-head, over-read, over-fine, settled-bytes}
+use Rattle.hop_rest.proofs.OnBytes.{over-head, over-read, over-fine, rested-bytes, settled-bytes}
 use Rattle.hop_rest.proofs.Comes.{comes-to-rest}
 
 -- ---- one list behind another
@@ -102,13 +104,13 @@ abbrev next : State → Queue → State
 next t q = rule.deliver t (q .sender) (q .receiver)
 
 abbrev ofQueue : List ℕ → Queue → List Refusal
-ofQueue s q = isDown s (q .sender) (q .receiver) ∷ nothingWaits s (q .sender) (q .receiver) ∷ []
+ofQueue s q = notSending s (q .sender) (q .receiver) ∷ nothingWaits s (q .sender) (q .receiver) ∷ []
 
-restored-same : {t r : State} (s : List ℕ) → Same t r → restored t s ≡ restored r s
+pub restored-same : {t r : State} (s : List ℕ) → Same t r → restored t s ≡ restored r s
 restored-same s e = rw (stored-same e, e .n)
 
 -- What is stored over a stored state of as many nodes is stored over the bytes as they were.
-restored-twice : (s : List ℕ) (t r : State) → r .n ≡ t .n → restored r (restored t s) ≡ restored r s
+pub restored-twice : (s : List ℕ) (t r : State) → r .n ≡ t .n → restored r (restored t s) ≡ restored r s
 restored-twice s t r e = ap (λ x. stored r ++ x) (rw e (drop-at (stored t) (drop (size (t .n)) s) (size (t .n)) (length-stored t)))
 
 module _ (s : List ℕ) (f : Fine s) (t : State) (o : Over (read s) t) (q : Queue) where
@@ -142,12 +144,13 @@ module _ (s : List ℕ) (f : Fine s) (t : State) (o : Over (read s) t) (q : Queu
       let same = over-read s f t o in
       let lw : q .sender < nodes (restored t s) = rw (over-head s f t o) (d .sender) in
       let lu : q .receiver < nodes (restored t s) = rw (over-head s f t o) (d .receiver) in
-      let up = same .link _ _ lw lu ∙ o .links _ _ (d .sender) (d .receiver) ∙ sound .symmetric _ _ (d .sender) (d .receiver) ∙ d .linked in
+      let there = over-sends (read s) t o (q .sender) (q .receiver) (d .sender) (d .receiver) (d .linked) in
+      let sends : Sends (read (restored t s)) (q .sender) (q .receiver) = (same .link _ _ lw lu ∙ there .0, same .link _ _ lu lw ∙ there .1) in
       let waits : length (read (restored t s) .queue (q .sender) (q .receiver)) ≡ suc (length (d .rest)) = ap length (same .queue _ _ lw lu ∙ d .waited) in
-      let apart : q .sender ≡ q .receiver → ⊥ = λ e. omega (arith, d .linked, subst (λ (x : ℕ). read s .link (q .receiver) x ≡ 0) (sym e) (sound .diagonal _ (d .receiver))) in
+      let apart : q .sender ≡ q .receiver → ⊥ = λ e. omega (arith, d .linked .1, subst (λ (x : ℕ). read s .link (q .receiver) x ≡ 0) (sym e) (sound .diagonal _ (d .receiver))) in
       judged
       ∙ fine-ends (restored t s) (over-fine s f t o) (q .sender) (q .receiver) (ofQueue (restored t s) q) lw lu apart
-      ∙ judge-next (isDown (restored t s) (q .sender) (q .receiver)) (nothingWaits (restored t s) (q .sender) (q .receiver) ∷ []) (ap not (eq-eqb _ 1 up))
+      ∙ judge-next (notSending (restored t s) (q .sender) (q .receiver)) (nothingWaits (restored t s) (q .sender) (q .receiver) ∷ []) (ap not (tells-sends (read (restored t s)) (q .sender) (q .receiver) .if-so sends))
       ∙ judge-next (nothingWaits (restored t s) (q .sender) (q .receiver)) [] (ne-eqb (length (read (restored t s) .queue (q .sender) (q .receiver))) 0 (λ z. omega (arith, waits)))
 
   -- Done or refused, it leaves the buffer of a state over the same links.
@@ -216,6 +219,13 @@ module _ (s : List ℕ) (accepted : outcome check s [] .number ≡ 0) where
   keeps : (P : List ℕ → Type 0) → ((r : State) → Over (read s) r → P (restored r s)) → (qs : List Queue) → P (delivering s qs)
   keeps P h qs = from-own (λ b. P (delivering b qs)) (delivering-keeps s fine P h (read s) qs start)
 
+  -- What passes leave is the buffer of the state after them.
+  left : (ps : List (List Queue)) → PassesBytes s ps → delivering s (flatten ps) ≡ restored (after (read s) ps) s
+  left ps h = leaves (flatten ps) (passed ps h .1) ∙ ap (λ t. restored t s) (sym (after-deliveries (read s) ps))
+
+  over : (ps : List (List Queue)) → PassesBytes s ps → Over (read s) (after (read s) ps)
+  over ps h = passes-settle (read s) (fine .sound .state) ps (passed ps h .0) .over
+
   pub deliveries-settle : DeliveriesSettle s
   unfolding readAs
   deliveries-settle =
@@ -224,9 +234,8 @@ module _ (s : List ℕ) (accepted : outcome check s [] .number ≡ 0) where
         passes = λ qs. (pass-read s fine qs, read-pass s fine qs);
         none-refused = λ ps h. passed ps h .1;
         deliveries-most = λ ps h. rests .deliveries-most ps (passed ps h .0);
-        settles = λ ps h l.
-            let e = leaves (flatten ps) (passed ps h .1) ∙ ap (λ t. restored t s) (sym (after-deliveries (read s) ps)) in
-            subst (SettledBytes s) (sym e) (settled-bytes s fine (after (read s) ps) (passes-settle (read s) (fine .sound .state) ps (passed ps h .0) .over) (rests .settles ps (passed ps h .0) l));
+        rests = λ ps h l. subst (RestedBytes s) (sym (left ps h)) (rested-bytes s fine (after (read s) ps) (over ps h) (rests .rests ps (passed ps h .0) l));
+        settles = λ agree ps h l. subst (SettledBytes s) (sym (left ps h)) (settled-bytes s fine (after (read s) ps) (over ps h) (rests .settles agree ps (passed ps h .0) l));
         left = leaves;
         accepted = keeps (λ b. outcome check b [] .number ≡ 0) (λ r o. fine-accepted _ (over-fine s fine r o));
         waiting-most = keeps (λ b. asked totalQueued b ≤ nodes s * nodes s * (nodes s - 1)) (λ r o.

@@ -14,7 +14,10 @@ pub mod Settling
 pub mod Run
 pub mod Same
 pub mod Tails
+pub mod Parts
+pub mod AtOnce
 pub mod Ends
+pub mod Alone
 pub mod Comes
 pub mod Changes
 pub mod Bridges

@@ -65,7 +65,6 @@ brings-all n d m = record {
 pub sound-steady : {s : State} → Sound s → Steady s
 sound-steady {s} o = record {
   bits = o .bits;
-  symmetric = o .symmetric;
   diagonal = o .diagonal;
   views = o .views;
   down-views = o .down-views;
@@ -81,7 +80,6 @@ sound-steady {s} o = record {
 pub but-sound : (P : ℕ → ℕ → Type 0) (s : State) → ((u v : ℕ) → u < s .n → v < s .n → P u v → ⊥) → SoundBut P s → Sound s
 but-sound P s none o = record {
   bits = c .bits;
-  symmetric = c .symmetric;
   diagonal = c .diagonal;
   distances = λ u v lu lv. o .current u v lu lv (none u v lu lv) .distance;
   downstreams = λ u v lu lv. o .current u v lu lv (none u v lu lv) .downstream;
@@ -128,7 +126,7 @@ module _ (P : ℕ → ℕ → Type 0) (s : State) (u v : ℕ) (lu : u < s .n) (l
 
       go : Dec (y ≡ u) → Dec (distanceOf s u v ≡ s .distance u v) → Brings (s .n) (recompute s u v .distance y) (s .view x y) (recompute s u v .queue y x)
       go (yes i) (no f) =
-          let r : Sends s u x = rw i at q in
+          let r : Sends s u x = subst (λ (z : ℕ). Sends s z x) i q in
           rw (i, recompute-queue-sent s u v x r f)
           (brings-send _ _ _ _ (record { destination = v; value = distanceOf s u v }) _ lv (sym (recompute-distance-at s u v)) (λ b k. recompute-distance-other s u v u b (λ j. k)) (c .brings x u lx lu r))
       go (yes i) (yes e) = kept (λ z. e)
@@ -139,11 +137,10 @@ module _ (P : ℕ → ℕ → Type 0) (s : State) (u v : ℕ) (lu : u < s .n) (l
   recompute-mends = record {
     steady = record {
       bits = c .bits;
-      symmetric = c .symmetric;
       diagonal = c .diagonal;
       views = c .views;
       down-views = c .down-views;
-      down-queues = λ x y lx ly f. recompute-queue-other s u v y x (λ i q. absurd (f (rw i q))) ∙ c .down-queues x y lx ly f;
+      down-queues = λ x y lx ly f. recompute-queue-other s u v y x (λ i q. absurd (f (subst (λ (z : ℕ). Sends s z x) (sym i) q))) ∙ c .down-queues x y lx ly f;
       brings = mended-brings;
     };
     current = λ a b la lb f. mended a b la lb f (decides (tells-and (tells-eq a u) (tells-eq b v)));

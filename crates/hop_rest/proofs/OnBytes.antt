@@ -17,10 +17,10 @@ use Rattle.hop_laws.proofs.Read.{read-stored}
 use Rattle.hop_laws.proofs.Calls.{outcome-done}
 use Rattle.hop_laws.proofs.Accepted.{accepted-fine, fine-accepts, fine-accepted, fine-total, fine-route, stored-fine}
 use Rattle.hop_rest.specs.Walks.{HopCount, Nearer}
-use Rattle.hop_rest.specs.Rest.{Settled}
-use Rattle.hop_rest.specs.OnBytes.{askedRoute, SettledBytes, RunSettles}
+use Rattle.hop_rest.specs.Rest.{AtRest, Settled}
+use Rattle.hop_rest.specs.OnBytes.{askedRoute, RestedBytes, SettledBytes, RunSettles}
 use Rattle.hop_rest.specs.Delivered.{Over}
-use Rattle.hop_rest.proofs.Settling.{rest-total, passes-over}
+use Rattle.hop_rest.proofs.Settling.{rest-total, total-rest, passes-over}
 use Rattle.hop_rest.proofs.Run.{made-most}
 use Rattle.hop_rest.proofs.Comes.{comes-to-rest}
 
@@ -47,13 +47,19 @@ module _ (s : List ℕ) (f : Fine s) (t : State) (o : Over (read s) t) where
       let (iu, iv) : (u < nodes (restored t s)) × (v < nodes (restored t s)) = (rw over-head lu, rw over-head lv) in
       rw (fine-route _ over-fine u v iu iv, over-read .distance u v iu iv, over-read .downstream u v iu iv)
 
-  -- So a state that has settled is a buffer that has.
+  -- So a state at rest is a buffer at rest, and one that has settled a buffer that has.
+  pub rested-bytes : AtRest t → RestedBytes s (restored t s)
+  unfolding readAs
+  rested-bytes h = record {
+    accepted = fine-accepted _ over-fine;
+    same-nodes = over-head;
+    nothing-queued = fine-total _ over-fine ∙ rest-total _ (λ w u lw lu. over-read .queue w u lw lu ∙ h w u (omega (arith, over-head, over-nodes)) (omega (arith, over-head, over-nodes)));
+  }
+
   pub settled-bytes : Settled (read s) t → SettledBytes s (restored t s)
   unfolding readAs
   settled-bytes h = record {
-    accepted = fine-accepted _ over-fine;
-    same-nodes = over-head;
-    nothing-queued = fine-total _ over-fine ∙ rest-total _ (λ w u lw lu. over-read .queue w u lw lu ∙ h .empty w u (omega (arith, over-head, over-nodes)) (omega (arith, over-head, over-nodes)));
+    rested = rested-bytes (h .empty);
     distances = λ u v lu lv. subst (HopCount (read s) u v) (sym (ap (λ (w : Way). w .distance) (asked-there u v lu lv))) (h .distances u v lu lv);
     own = λ u lu. ap (λ (w : Way). w .downstream) (asked-there u u lu lu) ∙ h .own u lu;
     none = λ u v lu lv p. ap (λ (w : Way). w .downstream) (asked-there u v lu lv) ∙ h .none u v lu lv p;
@@ -77,9 +83,12 @@ module _ (s : List ℕ) (accepted : outcome check s [] .number ≡ 0) (k : ℕ) 
   unfolding done readAs
   run-settles =
       let rests = comes-to-rest (read s) sound in
+      let left = passes (read s) (made (read s) k) in
+      let over = passes-over (read s) sound (made (read s) k) (made-most (read s) sound k) in
       record {
         done = ap (λ o. o .number) ran;
         passes-most = rw (ap (answerAt 0) ran) (rests .made-most k);
         deliveries-most = rw (ap (answerAt 1) ran) (rests .delivered-most k);
-        settled = rw (ap (λ o. o .bytes) ran) (settled-bytes s fine (passes (read s) (made (read s) k)) (passes-over (read s) sound (made (read s) k) (made-most (read s) sound k)) (rests .run-settles k enough .0));
+        rested = rw (ap (λ o. o .bytes) ran) (rested-bytes s fine left over (total-rest left (rests .run-rests k enough)));
+        settled = λ agree. rw (ap (λ o. o .bytes) ran) (settled-bytes s fine left over (rests .run-settles agree k enough));
       }

@@ -8,7 +8,7 @@ use native.Mathlib.Omega.{arith}
 use lib.ListN.{length, take, drop-of-length-le}
 use lib.Seq.{take-all}
 use Rattle.hop_rule.specs.State.{State}
-use Rattle.hop_rule.specs.Sound.{Waits}
+use Rattle.hop_rule.specs.Sound.{Sends, Waits}
 use Rattle.hop_laws.proofs.Tests.{tells-eq, tells-and, decides}
 use Rattle.hop_rest.specs.Orders.{Queue, count}
 use Rattle.hop_rest.specs.Rest.{AtRest}
@@ -22,7 +22,7 @@ use Rattle.hop_rest.proofs.Runs.{count-at, count-other}
 pub record Inside (g : State) (k : ℕ) (s : State) (qs : List Queue) : Type 0 where
   pub over : Over g s
   pub views : ViewsRight g k s
-  pub served : (u w v : ℕ) → u < g .n → w < g .n → v < g .n → g .link u w ≡ 1 → (Waits v (take (count w u qs) (s .queue w u)) → ⊥) → Right g (suc k) (s .view u w v) w v
+  pub served : (u w v : ℕ) → u < g .n → w < g .n → v < g .n → Sends g w u → (Waits v (take (count w u qs) (s .queue w u)) → ⊥) → Right g (suc k) (s .view u w v) w v
 
 pub inside-start : (g : State) (k : ℕ) (s : State) (qs : List Queue) → k < g .n → Over g s → ViewsRight g k s → Covers g s qs → Inside g k s qs
 inside-start g k s qs lk o h c = record {
@@ -54,11 +54,11 @@ module _ (g : State) (k : ℕ) (s t : State) (w u : ℕ) (qs : List Queue) (lk :
       cell : (a b c : ℕ) → Dec ((a ≡ u) × ((b ≡ w) × (c ≡ d .head .destination)))
       cell a b c = decides (tells-and (tells-eq a u) (tells-and (tells-eq b w) (tells-eq c (d .head .destination))))
 
-      view : (a b c : ℕ) → a < g .n → b < g .n → c < g .n → g .link a b ≡ 1 → Dec ((a ≡ u) × ((b ≡ w) × (c ≡ d .head .destination))) → Right g k (t .view a b c) b c
+      view : (a b c : ℕ) → a < g .n → b < g .n → c < g .n → Sends g b a → Dec ((a ≡ u) × ((b ≡ w) × (c ≡ d .head .destination))) → Right g k (t .view a b c) b c
       view a b c la lb lc l (yes p) = rw (p .0, p .1 .0, p .1 .1) (right-less learnt-right)
       view a b c la lb lc l (no f) = rw (d .views a b c la lb lc (λ i j z. f (i, (j, z)))) (h .views a b c la lb lc l)
 
-      serve : (a b c : ℕ) → a < g .n → b < g .n → c < g .n → g .link a b ≡ 1 → (Waits c (take (count b a qs) (t .queue b a)) → ⊥) → Dec ((a ≡ u) × ((b ≡ w) × (c ≡ d .head .destination)))
+      serve : (a b c : ℕ) → a < g .n → b < g .n → c < g .n → Sends g b a → (Waits c (take (count b a qs) (t .queue b a)) → ⊥) → Dec ((a ≡ u) × ((b ≡ w) × (c ≡ d .head .destination)))
           → Right g (suc k) (t .view a b c) b c
       serve a b c la lb lc l n (yes p) = rw (p .0, p .1 .0, p .1 .1) learnt-right
       serve a b c la lb lc l n (no f) =

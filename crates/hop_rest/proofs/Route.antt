@@ -78,13 +78,11 @@ route-tells s accepted u v lu lv = tells s (accepted-fine s accepted) u v lu lv
 
 pub resting-routes-right : RestingRoutesRight
 unfolding readAs
-resting-routes-right s accepted none =
+resting-routes-right s accepted none agree =
     let fine = accepted-fine s accepted in
-    let h = rest-settled (read s) (read s) (over-self (fine .sound .state)) (total-rest (read s) (sym (fine-total s fine) ∙ none)) in
+    let h = rest-settled (read s) (read s) (over-self (fine .sound .state)) (total-rest (read s) (sym (fine-total s fine) ∙ none)) agree in
     record {
-      accepted = accepted;
-      same-nodes = refl;
-      nothing-queued = none;
+      rested = record { accepted = accepted; same-nodes = refl; nothing-queued = none };
       distances = λ u v lu lv. rw (fine-route s fine u v lu lv) (h .distances u v lu lv);
       own = λ u lu. rw (fine-route s fine u u lu lu) (h .own u lu);
       none = λ u v lu lv p. rw (fine-route s fine u v lu lv) (h .none u v lu lv p);

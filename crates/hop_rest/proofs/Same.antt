@@ -2,25 +2,29 @@
 use mathlib.Core.Path.{_≡_, refl, sym, ap, subst, _∙_}
 use mathlib.Core.List.{List, [], _∷_}
 use Prim.Native.Nat.{ℕ, _<_}
+use native.Mathlib.Decide.{decLt}
 use native.Mathlib.Omega.{arith}
 use lib.Dec.{eqb}
 use lib.ListN.{length}
 use Rattle.hop_rule.specs.Words.{loop, listed}
 use Rattle.hop_rule.specs.State.{State, Entry}
-use Rattle.hop_rule.specs.Rule.{recompute, hear, deliver, linkUp, cut, recomputeAll, linkDown, pass, total, waitingFor, waitingFrom, reached, passes, made, delivered}
-use Rattle.hop_rule.specs.Sound.{Sound}
+use Rattle.hop_rule.specs.Rule.{recompute, hear, deliver, linkUp, recomputeAll, pass, total, waitingFor, waitingFrom, reached, passes, made, delivered}
+use Rattle.hop_rule.specs.Sound.{Linked, Sound}
+use Rattle.hop_rule.specs.Notice.{lose, notice, missing, linkDown}
 use Rattle.hop_laws.specs.Same.{Same}
+use Rattle.hop_laws.proofs.Tests.{decides}
 use Rattle.hop_laws.proofs.Words.{loop-both, sum-same, listed-same, joined-same, first-same}
 use Rattle.hop_laws.proofs.Rule.{Alike, distanceOf-alike, downstreamOf-alike, deliver-head, deliver-none, both-same, up-queue}
+use Rattle.hop_laws.proofs.Sound.{tells-up}
+use Rattle.hop_laws.proofs.Notice.{missing-given, missing-none, down-ascending, down-descending}
 use Rattle.hop_laws.proofs.Same.{same-reads}
 use Rattle.hop_rest.specs.Orders.{Queue, Nodes, deliveries, ascending}
 use Rattle.hop_rest.proofs.Frame.{deliver-n}
-use Rattle.hop_rest.proofs.Mended.{recompute-all-n}
-use Rattle.hop_rest.proofs.Kept.{waiting-below, deliver-keeps-sound, pass-keeps-sound}
+use Rattle.hop_rest.proofs.Kept.{waiting-below, deliver-keeps-sound, missing-n, pass-keeps-sound}
 use Rattle.hop_rest.proofs.Ascending.{ascending-pass, ascending-deliveries}
 
 module _ {s t : State} (e : Same s t) where
-  recompute-same : (u v : ℕ) → u < s .n → v < s .n → Same (recompute s u v) (recompute t u v)
+  pub recompute-same : (u v : ℕ) → u < s .n → v < s .n → Same (recompute s u v) (recompute t u v)
   unfolding recompute
   recompute-same u v lu lv = record {
     n = e .n;
@@ -28,7 +32,7 @@ module _ {s t : State} (e : Same s t) where
     distance = λ a c la lc. rw (distanceOf-alike reads, e .distance a c la lc);
     downstream = λ a c la lc. rw (downstreamOf-alike reads, e .downstream a c la lc);
     view = e .view;
-    queue = λ a b la lb. rw (distanceOf-alike reads, e .link u b lu lb, e .distance u v lu lv, e .queue a b la lb);
+    queue = λ a b la lb. rw (distanceOf-alike reads, e .link u b lu lb, e .link b u lb lu, e .distance u v lu lv, e .queue a b la lb);
   }
     where
       reads : Alike s t u v
@@ -80,9 +84,9 @@ module _ {s t : State} (e : Same s t) (a b : ℕ) where
       all : (x : ℕ) → x < s .n → listed {A = Entry} (s .n) (λ v. record { destination = v; value = s .distance x v }) ≡ listed (t .n) (λ v. record { destination = v; value = t .distance x v })
       all x lx = rw (← e .n) (listed-same (s .n) _ _ (λ v lv. rw (e .distance x v lx lv)))
 
-  cut-same : Same (cut s a b) (cut t a b)
-  unfolding cut
-  cut-same = record {
+  lose-same : Same (lose s a b) (lose t a b)
+  unfolding lose
+  lose-same = record {
     n = e .n;
     link = λ x y lx ly. rw (e .link x y lx ly);
     distance = e .distance;
@@ -98,13 +102,26 @@ recompute-all-same {s} {t} e u lu =
     subst (λ (m : ℕ). Same (recomputeAll s u) (loop m step t)) (e .n)
     (loop-both (λ x y. Same x y × (x .n ≡ s .n)) (s .n) step step s t (e, refl) (λ v x y l p. (recompute-same (p .0) u v (omega arith) (omega arith), p .1)) .0)
 
-pub down-n : (s : State) (a b : ℕ) → linkDown s a b .n ≡ s .n
-unfolding linkDown cut
-down-n s a b = recompute-all-n (recomputeAll (cut s a b) a) b ∙ recompute-all-n (cut s a b) a
+pub notice-same : {s t : State} → Same s t → (a b : ℕ) → a < s .n → Same (notice s a b) (notice t a b)
+unfolding notice lose
+notice-same e a b la = recompute-all-same (lose-same e a b) a la
+
+missing-same : {s t : State} → Same s t → (a b : ℕ) → a < s .n → b < s .n → Same (missing s a b) (missing t a b)
+missing-same {s} {t} e a b la lb = go (decides (tells-up s a b))
+  where
+    go : Dec (Linked s a b) → Same (missing s a b) (missing t a b)
+    go (yes q) = rw (missing-given s a b q, missing-given t a b (sym (e .link a b la lb) ∙ q)) (notice-same e a b la)
+    go (no f) = rw (missing-none s a b f, missing-none t a b (λ q. f (e .link a b la lb ∙ q))) e
 
 pub down-same : {s t : State} → Same s t → (a b : ℕ) → a < s .n → b < s .n → Same (linkDown s a b) (linkDown t a b)
-unfolding linkDown cut
-down-same {s} {t} e a b la lb = recompute-all-same (recompute-all-same (cut-same e a b) a la) b (rw (recompute-all-n (cut s a b) a) lb)
+down-same {s} {t} e a b la lb = go (decLt a b)
+  where
+    both : (x y : ℕ) → x < s .n → y < s .n → Same (missing (missing s x y) y x) (missing (missing t x y) y x)
+    both x y lx ly = missing-same (missing-same e x y lx ly) y x (rw (missing-n s x y) ly) (rw (missing-n s x y) lx)
+
+    go : Dec (a < b) → Same (linkDown s a b) (linkDown t a b)
+    go (yes l) = rw (down-ascending s a b l, down-ascending t a b l) (both a b la lb)
+    go (no f) = rw (down-descending s a b f, down-descending t a b f) (both b a lb la)
 
 -- ---- passes
 

@@ -4,17 +4,18 @@ use mathlib.Core.List.{List, [], _∷_, _++_, append-assoc}
 use Prim.Native.Nat.{ℕ, _≤_, _<_}
 use native.Mathlib.Decide.{ℕ-discrete}
 use native.Mathlib.Omega.{arith}
-use lib.Dec.{eqb, ltb}
+use lib.Dec.{ltb}
 use lib.ListN.{length, drop, length-append, length-drop}
 use lib.Seq.{drop-append-le}
 use borrow.Author.Tests.{leb-false, ne-eqb, le-ltb}
 use Rattle.hop_rule.specs.declared.Event.{Event}
 use Rattle.hop_rule.specs.State.{State}
 use Rattle.hop_rule.specs.Rule as rule
+use Rattle.hop_rule.specs.Notice as ends
 use Rattle.hop_rule.specs.Stored.{size, stored, nodes, readAs, read}
 use Rattle.hop_rule.specs.Sound.{SoundBytes}
 use Rattle.hop_rule.specs.Records.{statusRecord}
-use Rattle.hop_rule.specs.Calls.{Call, make, check, up, down, deliver, pass, run, route, queueLength, totalQueued, status, writeEvent, Refusal, judge, badCount, noNode, oneNode, isUp, isDown, nothingWaits, onState, refusals, Outcome, refused, answered, changed, done, outcome}
+use Rattle.hop_rule.specs.Calls.{Call, make, check, up, down, notice, deliver, pass, run, route, queueLength, totalQueued, status, writeEvent, Refusal, judge, badCount, noNode, oneNode, isUp, stillUp, isDown, endDown, notSending, nothingWaits, onState, refusals, Outcome, refused, answered, changed, done, outcome}
 use Rattle.hop_laws.specs.Same.{Same}
 use Rattle.hop_laws.specs.Fine.{Fine}
 use Rattle.hop_laws.proofs.Stored.{length-stored}
@@ -23,8 +24,8 @@ use Rattle.hop_laws.proofs.Tails.{some, nodes-same, test-same, read-same}
 use Rattle.hop_laws.proofs.Calls.{judge-rest, judge-none, outcome-done, outcome-refused, state-fine, state-refused, state-passed}
 use Rattle.hop_rest.specs.Tails.{form, TailsUnread, NothingRead}
 use Rattle.hop_rest.proofs.Frame.{deliver-n}
-use Rattle.hop_rest.proofs.Kept.{pass-keeps-sound, passes-keeps-sound}
-use Rattle.hop_rest.proofs.Same.{deliver-same, up-same, down-n, down-same, pass-same, passes-same, total-same, waiting-for-same, waiting-from-same, reached-same, made-same, delivered-same}
+use Rattle.hop_rest.proofs.Kept.{notice-n, down-n, pass-keeps-sound, passes-keeps-sound}
+use Rattle.hop_rest.proofs.Same.{deliver-same, up-same, notice-same, down-same, pass-same, passes-same, total-same, waiting-for-same, waiting-from-same, reached-same, made-same, delivered-same}
 
 -- ---- refusals
 
@@ -135,29 +136,37 @@ module _ (f r out : List ℕ) (room : size (nodes f) ≤ length f) where
   fits : {m : ℕ} → m ≡ nodes f → size m ≤ length f
   fits e = rw e room
 
-  link-same : SoundBytes f → (a b : ℕ) → a < nodes f → b < nodes f → rule.up (read (f ++ r)) a b ≡ rule.up (read f) a b
+  link-same : SoundBytes f → (a b : ℕ) → a < nodes f → b < nodes f → read (f ++ r) .link a b ≡ read f .link a b
   unfolding readAs
-  link-same h a b la lb = ap (λ x. eqb x 1) (sym (read-same f r room h .link a b la lb))
+  link-same h a b la lb = sym (read-same f r room h .link a b la lb)
 
   up-alike : (a b : ℕ) → Alike (up a b) f r out
   unfolding refusals done readAs rule.linkUp
   up-alike a b = state-alike (up a b) _ _ refl refl
-      (λ h. nodes-judged f r room a b (oneNode a b ∷ isUp (f ++ r) a b ∷ []) (oneNode a b ∷ isUp f a b ∷ []) (λ la lb. rw (link-same h a b la lb)))
+      (λ h. nodes-judged f r room a b (oneNode a b ∷ isUp (f ++ r) a b ∷ stillUp (f ++ r) a b ∷ []) (oneNode a b ∷ isUp f a b ∷ stillUp f a b ∷ []) (λ la lb. rw (link-same h a b la lb, link-same h b a lb la)))
       (λ h z. changed-alike f r out (rule.linkUp (read f) a b) (rule.linkUp (read (f ++ r)) a b) room (up-same (read-same f r room h) a b) refl)
 
   down-alike : (a b : ℕ) → Alike (down a b) f r out
   unfolding refusals done readAs
   down-alike a b = state-alike (down a b) _ _ refl refl
-      (λ h. nodes-judged f r room a b (oneNode a b ∷ isDown (f ++ r) a b ∷ []) (oneNode a b ∷ isDown f a b ∷ []) (λ la lb. rw (link-same h a b la lb)))
+      (λ h. nodes-judged f r room a b (oneNode a b ∷ isDown (f ++ r) a b ∷ []) (oneNode a b ∷ isDown f a b ∷ []) (λ la lb. rw (link-same h a b la lb, link-same h b a lb la)))
       (λ h z.
       let l = nodes-inside f a b _ z in
-      changed-alike f r out (rule.linkDown (read f) a b) (rule.linkDown (read (f ++ r)) a b) (fits (down-n (read f) a b)) (down-same (read-same f r room h) a b (l .0) (l .1)) refl)
+      changed-alike f r out (ends.linkDown (read f) a b) (ends.linkDown (read (f ++ r)) a b) (fits (down-n (read f) a b)) (down-same (read-same f r room h) a b (l .0) (l .1)) refl)
+
+  notice-alike : (a b : ℕ) → Alike (notice a b) f r out
+  unfolding refusals done readAs
+  notice-alike a b = state-alike (notice a b) _ _ refl refl
+      (λ h. nodes-judged f r room a b (oneNode a b ∷ endDown (f ++ r) a b ∷ []) (oneNode a b ∷ endDown f a b ∷ []) (λ la lb. rw (link-same h a b la lb)))
+      (λ h z.
+      let l = nodes-inside f a b _ z in
+      changed-alike f r out (ends.notice (read f) a b) (ends.notice (read (f ++ r)) a b) (fits (notice-n (read f) a b)) (notice-same (read-same f r room h) a b (l .0)) refl)
 
   deliver-alike : (w u : ℕ) → Alike (deliver w u) f r out
   unfolding refusals done readAs
   deliver-alike w u = state-alike (deliver w u) _ _ refl refl
-      (λ h. nodes-judged f r room w u (oneNode w u ∷ isDown (f ++ r) w u ∷ nothingWaits (f ++ r) w u ∷ []) (oneNode w u ∷ isDown f w u ∷ nothingWaits f w u ∷ [])
-      (λ lw lu. rw (link-same h w u lw lu, queue-length h w u lw lu)))
+      (λ h. nodes-judged f r room w u (oneNode w u ∷ notSending (f ++ r) w u ∷ nothingWaits (f ++ r) w u ∷ []) (oneNode w u ∷ notSending f w u ∷ nothingWaits f w u ∷ [])
+      (λ lw lu. rw (link-same h w u lw lu, link-same h u w lu lw, queue-length h w u lw lu)))
       (λ h z.
       let l = nodes-inside f w u _ z in
       changed-alike f r out (rule.deliver (read f) w u) (rule.deliver (read (f ++ r)) w u) (fits (deliver-n (read f) w u)) (deliver-same w u (h .state) (l .0) (l .1) (read-same f r room h)) refl)
@@ -213,6 +222,7 @@ alike (make n) f r out room = make-alike n f r out room
 alike check f r out room = check-alike f r out room
 alike (up a b) f r out room = up-alike f r out room a b
 alike (down a b) f r out room = down-alike f r out room a b
+alike (notice a b) f r out room = notice-alike f r out room a b
 alike (deliver w u) f r out room = deliver-alike f r out room w u
 alike pass f r out room = pass-alike f r out room
 alike (run k) f r out room = run-alike f r out room k

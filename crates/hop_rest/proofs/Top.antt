@@ -3,21 +3,26 @@ use mathlib.Core.Path.{sym, _∙_}
 use Rattle.hop_rule.specs.Calls.{outcome}
 use Rattle.hop_rest.specs.Rest.{EverySoundStateRests}
 use Rattle.hop_rest.specs.OnBytes.{EveryRunSettles, EveryDeliverySettles}
-use Rattle.hop_rest.specs.Frame.{EveryDeliveryRewritesOnly}
+use Rattle.hop_rest.specs.Right.{EveryRestTrusts}
+use Rattle.hop_rest.specs.Frame.{EveryDeliveryRewritesOnly, EveryNoticeRewritesOnly}
 use Rattle.hop_rest.specs.Accepted.{AcceptedStays, MadeAccepted}
 use Rattle.hop_rest.specs.Route.{EveryRouteTells, RestingRoutesRight, RefusedRouteIs0}
 use Rattle.hop_rest.specs.Tails.{TailsUnread, TwoTailsOneAnswer, MakeReadsNothing}
-use Rattle.hop_rest.specs.Ends.{EitherEndFirst}
-use Rattle.hop_rest.specs.Worth.{EveryLineTells, EveryLineFits, EveryPairHasItsLine, EveryWorthTells, WorthTailUnread}
+use Rattle.hop_rest.specs.Ends.{EitherEndFirst, NoticesMeetAtDown, DownGivesMissing, StaysUntilNotice}
+use Rattle.hop_rest.specs.Worth.{EveryLineRuns, EveryLineFits, EveryLineTells, EveryPairHasItsLine, EveryWorthTells, WorthTailUnread}
 use Rattle.hop_rest.specs.Why.{EveryReasonShows, SidesApart, PathsAreWalks, ClosedSetsPart, EveryWhyTells, ListOfNFits, WhyTailUnread}
 use Rattle.hop_rest.proofs.Comes as comes
+use Rattle.hop_rest.proofs.Right as right
+use Rattle.hop_rest.proofs.Rest as rest
 use Rattle.hop_rest.proofs.OnBytes as bytes
 use Rattle.hop_rest.proofs.Delivering as bytes-by-deliveries
 use Rattle.hop_rest.proofs.Frame as frame
 use Rattle.hop_rest.proofs.Accepted as accepted
 use Rattle.hop_rest.proofs.Route as route
 use Rattle.hop_rest.proofs.Tails as tails
+use Rattle.hop_rest.proofs.AtOnce as at-once
 use Rattle.hop_rest.proofs.Ends as ends
+use Rattle.hop_rest.proofs.Alone as alone
 use Rattle.hop_rest.proofs.Worth as worth
 use Rattle.hop_rest.proofs.Lines as lines
 use Rattle.hop_rest.proofs.WorthCall as worth-call
@@ -35,10 +40,17 @@ every-run-settles s k accepted enough = bytes.run-settles s accepted k enough
 pub every-delivery-settles : EveryDeliverySettles
 every-delivery-settles s accepted = bytes-by-deliveries.deliveries-settle s accepted
 
--- ---- what a delivery rewrites
+-- What distances are at rest beside links with one end up.
+pub every-rest-trusts : EveryRestTrusts
+every-rest-trusts s sound rests = rest.rest-right s s (right.over-self sound) rests
+
+-- ---- what a delivery and a notice rewrite
 
 pub delivery-rewrites-only : EveryDeliveryRewritesOnly
 delivery-rewrites-only = frame.delivery-rewrites-only
+
+pub notice-rewrites-only : EveryNoticeRewritesOnly
+notice-rewrites-only = at-once.notice-rewrites-only
 
 -- ---- accepted buffers
 
@@ -87,13 +99,25 @@ make-reads-nothing = tails.nothing-read
 pub either-end-first : EitherEndFirst
 either-end-first = ends.ends-alike
 
+pub notices-meet-at-down : NoticesMeetAtDown
+notices-meet-at-down = ends.notices-meet
+
+pub down-gives-missing : DownGivesMissing
+down-gives-missing = ends.down-gives-missing
+
+pub stays-until-notice : StaysUntilNotice
+stays-until-notice = alone.stays-until-notice
+
 -- ---- what each link is worth
 
-pub every-line-tells : EveryLineTells
-every-line-tells = worth.line-tells
+pub every-line-runs : EveryLineRuns
+every-line-runs = worth.lines-run
 
 pub every-line-fits : EveryLineFits
 every-line-fits = worth.line-fits
+
+pub every-line-tells : EveryLineTells
+every-line-tells = worth.lines-tell
 
 pub every-pair-has-its-line : EveryPairHasItsLine
 every-pair-has-its-line = lines.pairs-have-lines

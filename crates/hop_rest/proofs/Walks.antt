@@ -1,4 +1,4 @@
--- Laws of walks: how one begins and ends, that they can be put together and turned round, that a pair has one hop count, which no further link makes larger, and that whatever falls by at most one at each link is below n where a walk leads. Assumes nothing.
+-- Laws of walks: how one begins and ends, that they can be put together and turned round, that a pair has one hop count, and that whatever falls by at most one at each link is below n where a walk leads. Assumes nothing.
 use mathlib.Core.Path.{_≡_, refl, sym, subst, _∙_}
 use mathlib.Core.Logic.{_⊎_, inl, inr, _≢_}
 use Prim.Native.Nat.{ℕ, suc, _≤_, _<_}
@@ -6,16 +6,17 @@ use native.Mathlib.Decide.{ℕ-discrete, decLt}
 use native.Mathlib.Omega.{arith}
 use lib.Dec.{ltb}
 use Rattle.hop_rule.specs.State.{State}
+use Rattle.hop_rule.specs.Sound.{Sends}
 use Rattle.hop_laws.proofs.Tests.{Tells, tells-as, tells-lt}
 use Rattle.hop_laws.proofs.Queues.{cover-most}
 use Rattle.hop_rest.specs.Walks.{Walk, here, hop, HopCount, joined, apart}
 
--- A walk stays, or begins with an up link.
+-- A walk stays, or begins with a link.
 pub record Begins (s : State) (u v d : ℕ) : Type 0 where
   pub next : ℕ
   pub left : ℕ
   pub below : next < s .n
-  pub linked : s .link u next ≡ 1
+  pub linked : Sends s u next
   pub walk : Walk s next v left
   pub one-more : d ≡ suc left
 
@@ -28,7 +29,7 @@ pub walk-below : {s : State} {u v d : ℕ} → Walk s u v d → u < s .n → v <
 walk-below here lu = lu
 walk-below (hop l lw q p) lu = walk-below p lw
 
--- Some walk leads from u to v. Walks can be put together, and turned round where links are up at both ends.
+-- Some walk leads from u to v. Walks can be put together, and turned round.
 abbrev pub Reaches : State → ℕ → ℕ → Type 0
 Reaches s u v = (d : ℕ) × Walk s u v d
 
@@ -36,9 +37,9 @@ pub reaches-on : {s : State} {u w v d : ℕ} → Walk s u w d → Reaches s w v 
 reaches-on here r = r
 reaches-on (hop lu lw q p) r = let (e, k) = reaches-on p r in (suc e, hop lu lw q k)
 
-pub reaches-back : {s : State} → ((x y : ℕ) → x < s .n → y < s .n → s .link x y ≡ s .link y x) → {u v d : ℕ} → Walk s u v d → Reaches s v u
-reaches-back m here = (0, here)
-reaches-back m (hop {u = u} {w = w} lu lw q p) = let (e, k) = reaches-back m p in reaches-on k (1, hop lw lu (m w u lw lu ∙ q) here)
+pub reaches-back : {s : State} {u v d : ℕ} → Walk s u v d → Reaches s v u
+reaches-back here = (0, here)
+reaches-back (hop lu lw q p) = let (e, k) = reaches-back p in reaches-on k (1, hop lw lu (q .1, q .0) here)
 
 -- A pair has one hop count.
 pub hop-count-same : {s : State} {u v d e : ℕ} → HopCount s u v d → HopCount s u v e → d ≡ e
@@ -48,45 +49,29 @@ hop-count-same {e = e} (apart i f) (joined b p l) = absurd (f e p)
 hop-count-same (apart i f) (apart j g) = i ∙ sym j
 
 -- With a link two nodes are at most one hop apart; without one, two that differ are further.
-pub hop-count-linked : {s : State} {u v d : ℕ} → u < s .n → v < s .n → s .link u v ≡ 1 → HopCount s u v d → d ≤ 1
+pub hop-count-linked : {s : State} {u v d : ℕ} → u < s .n → v < s .n → Sends s u v → HopCount s u v d → d ≤ 1
 hop-count-linked lu lv q (joined b p l) = l 1 (hop lu lv q here)
 hop-count-linked lu lv q (apart i f) = absurd (f 1 (hop lu lv q here))
 
-pub hop-count-unlinked : {s : State} {u v d : ℕ} → 1 < s .n → u ≢ v → s .link u v ≢ 1 → HopCount s u v d → 1 < d
+pub hop-count-unlinked : {s : State} {u v d : ℕ} → 1 < s .n → u ≢ v → (Sends s u v → ⊥) → HopCount s u v d → 1 < d
 hop-count-unlinked l f g (apart i h) = omega arith
 hop-count-unlinked {s} {u} {v} {d} l f g (joined b p m) = first (walk-begins p)
   where
     second : (r : Begins s u v d) → (r .next ≡ v) ⊎ Begins s (r .next) v (r .left) → 1 < d
-    second r (inl e) = absurd (g (subst (λ w. s .link u w ≡ 1) e (r .linked)))
+    second r (inl e) = absurd (g (subst (Sends s u) e (r .linked)))
     second r (inr k) = omega (arith, r .one-more, k .one-more)
 
     first : (u ≡ v) ⊎ Begins s u v d → 1 < d
     first (inl e) = absurd (f e)
     first (inr r) = second r (walk-begins (r .walk))
 
--- More links: every up link of s is up in t.
-pub record More (s t : State) : Type 0 where
-  pub nodes : t .n ≡ s .n
-  pub links : (x y : ℕ) → x < s .n → y < s .n → s .link x y ≡ 1 → t .link x y ≡ 1
-
--- A walk stays a walk, and no hop count grows.
-walk-more : {s t : State} → More s t → {u v d : ℕ} → Walk s u v d → Walk t u v d
-walk-more m here = here
-walk-more m (hop {u = u} {w = w} lu lw q p) = hop {u = u} {w = w} (omega (arith, m .nodes)) (omega (arith, m .nodes)) (m .links u w lu lw q) (walk-more m p)
-
-pub hop-count-more : {s t : State} → More s t → {u v d e : ℕ} → HopCount s u v d → HopCount t u v e → e ≤ d
-hop-count-more m {d = d} (joined b p l) (joined c q k) = k d (walk-more m p)
-hop-count-more m {d = d} (joined b p l) (apart i f) = absurd (f d (walk-more m p))
-hop-count-more m (apart j g) (joined c q k) = omega (arith, m .nodes)
-hop-count-more m (apart j g) (apart i f) = omega (arith, m .nodes)
-
 -- A hop count is below n exactly where a walk joins the two.
 pub hop-count-tells : {s : State} {u v d : ℕ} → HopCount s u v d → Tells (ltb d (s .n)) (Reaches s u v)
 hop-count-tells {s} {d = d} (joined b p l) = tells-as (λ k. (d, p)) (λ w. b) (tells-lt d (s .n))
 hop-count-tells {s} {d = d} (apart i f) = tells-as (λ k. absurd (omega arith)) (λ w. absurd (f (w .0) (w .1))) (tells-lt d (s .n))
 
--- Levels: 0 at v, and at most one more over each up link.
-module _ (s : State) (v : ℕ) (lv : v < s .n) (level : ℕ → ℕ) (ends : level v ≡ 0) (falls : (x y : ℕ) → x < s .n → y < s .n → s .link x y ≡ 1 → level x ≤ suc (level y)) where
+-- Levels: 0 at v, and at most one more over each link.
+module _ (s : State) (v : ℕ) (lv : v < s .n) (level : ℕ → ℕ) (ends : level v ≡ 0) (falls : (x y : ℕ) → x < s .n → y < s .n → Sends s x y → level x ≤ suc (level y)) where
   -- A walk to v meets every level up to its first,
   met : {u d : ℕ} → Walk s u v d → (j : ℕ) → j ≤ level u → (x : ℕ) × (x < s .n) × (level x ≡ j)
   met here j l = (v, lv, omega arith)

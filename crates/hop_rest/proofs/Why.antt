@@ -1,4 +1,4 @@
--- R-3's reasons, of states: along the downstreams of a sound state at rest the distance falls by one at each step, and a distance below n tells that a walk joins the two. Nothing here needs a downstream to be the lowest-numbered. Assumes nothing.
+-- R-3's reasons, of states: along the downstreams of a sound state at rest over links whose two ends agree the distance falls by one at each step, and a distance below n tells that a walk joins the two. Nothing here needs a downstream to be the lowest-numbered. Assumes nothing.
 use mathlib.Core.Path.{_≡_, refl, sym, ap, subst, _∙_}
 use mathlib.Core.List.{List}
 use Prim.Native.Nat.{ℕ, zero, suc, _≤_, _<_}
@@ -6,7 +6,8 @@ use native.Mathlib.Omega.{arith}
 use lib.Dec.{ltb}
 use lib.ListN.{length}
 use Rattle.hop_rule.specs.State.{State}
-use Rattle.hop_rule.specs.Sound.{Sound}
+use Rattle.hop_rule.specs.Sound.{Sends, Sound}
+use Rattle.hop_rule.specs.Notice.{EndsAgree}
 use Rattle.hop_rule.specs.Why.{along, joinedTo, path, set, reason, shown}
 use Rattle.hop_laws.proofs.Tests.{Tells, tells-false, choose-so, choose-else}
 use Rattle.hop_laws.proofs.Why.{length-along, length-joined-to}
@@ -18,15 +19,15 @@ use Rattle.hop_rest.proofs.Right.{over-self, distance-own}
 use Rattle.hop_rest.proofs.Downstreams.{rest-settled}
 use Rattle.hop_rest.proofs.Chosen.{Chosen, chosen, one-left-out}
 
-module _ (s : State) (o : Sound s) (rest : AtRest s) where
+module _ (s : State) (o : Sound s) (rest : AtRest s) (agree : EndsAgree s) where
   settled : Settled s s
-  settled = rest-settled s s (over-self o) rest
+  settled = rest-settled s s (over-self o) rest agree
 
   -- ---- the path
 
   -- What holds at v, and goes on to hold from a downstream to its node, holds of each node and its distance to v.
   pub along-route : (v : ℕ) → v < s .n → (P : ℕ → ℕ → Type 0) → P v 0
-      → ((u d : ℕ) → u < s .n → s .downstream u v < s .n → s .link u (s .downstream u v) ≡ 1 → s .distance u v ≡ suc d → P (s .downstream u v) d → P u (suc d))
+      → ((u d : ℕ) → u < s .n → s .downstream u v < s .n → Sends s u (s .downstream u v) → s .distance u v ≡ suc d → P (s .downstream u v) d → P u (suc d))
       → (d u : ℕ) → u < s .n → d < s .n → s .distance u v ≡ d → P u d
   along-route v lv P own step zero u lu l e = go u (subst (HopCount s u v) e (settled .distances u v lu lv))
     where
@@ -112,16 +113,16 @@ module _ (s : State) (o : Sound s) (rest : AtRest s) where
             }
 
 pub reasons-show : EveryReasonShows
-reasons-show s o rest u v lu lv = explains s o rest u v lu lv
+reasons-show s o rest agree u v lu lv = explains s o rest agree u v lu lv
 
 -- A walk can be gone back, so one that leads from v to u, or from both to one node, would join u and v.
 pub sides-apart : SidesApart
-sides-apart s o rest u v lu lv l e =
-    let this : IsSet s u v l = rw e at (explains s o rest u v lu lv .shows) in
-    let apart : (d : ℕ) → Walk s v u d → ⊥ = λ d p. let (k, w) = reaches-back (o .symmetric) p in this .outside (this .holds v k w) in
-    let (m, f) = explains s o rest v u lv lu .parted apart in
-    let other : IsSet s v u m = rw f at (explains s o rest v u lv lu .shows) in
-    (m, f, λ x i j. let (d, p) = this .reached x i in let (k, w) = reaches-on p (reaches-back (o .symmetric) (other .reached x j .1)) in this .outside (this .holds v k w))
+sides-apart s o rest agree u v lu lv l e =
+    let this : IsSet s u v l = rw e at (explains s o rest agree u v lu lv .shows) in
+    let apart : (d : ℕ) → Walk s v u d → ⊥ = λ d p. let (k, w) = reaches-back p in this .outside (this .holds v k w) in
+    let (m, f) = explains s o rest agree v u lv lu .parted apart in
+    let other : IsSet s v u m = rw f at (explains s o rest agree v u lv lu .shows) in
+    (m, f, λ x i j. let (d, p) = this .reached x i in let (k, w) = reaches-on p (reaches-back (other .reached x j .1)) in this .outside (this .holds v k w))
 
 -- ---- what the links alone show
 

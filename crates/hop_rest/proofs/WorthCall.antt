@@ -1,26 +1,26 @@
 -- R-1's call on bytes. Lines do not tell apart what is the same below n, so no byte behind the form is looked at; and where the call is done the state is sound and at rest, so that its lines tell, and a copy of its form is accepted. Assumes nothing.
-use mathlib.Core.Path.{_≡_, sym, ap, _∙_}
+use mathlib.Core.Path.{_≡_, refl, sym, ap, _∙_}
 use mathlib.Core.Bool.{Bool, true, false, cond}
 use mathlib.Core.List.{List, [], _∷_, _++_}
 use Prim.Native.Nat.{ℕ, _*_, _≤_, _<_}
 use native.Mathlib.Nat.{le-of-eq}
-use native.Mathlib.Decide.{ℕ-discrete, decLt}
+use native.Mathlib.Decide.{ℕ-discrete}
 use native.Mathlib.Omega.{arith}
-use lib.Dec.{eqb, ltb}
+use lib.Dec.{eqb}
 use lib.IntN.{ℤ}
 use lib.ListN.{length, take, drop, take-append-drop}
 use lib.Seq.{length-take-le, take-append-le}
 use Rattle.hop_rule.specs.Words.{if_then_else_, joined}
 use Rattle.hop_rule.specs.State.{State}
-use Rattle.hop_rule.specs.Rule.{linkUp, linkDown, delivered}
+use Rattle.hop_rule.specs.Rule.{linkUp, delivered}
+use Rattle.hop_rule.specs.Notice.{linkDown}
 use Rattle.hop_rule.specs.Stored.{size, nodes, readAs, read}
 use Rattle.hop_rule.specs.Sound.{Sound}
 use Rattle.hop_rule.specs.Records.{written}
 use Rattle.hop_rule.specs.Calls.{check, judge, notAtRest}
-use Rattle.hop_rule.specs.Worth.{turned, trialPasses, trial, tableOf, lost, gained, change, line, lines, worthRefusals, Valued, worthDone, worth}
+use Rattle.hop_rule.specs.Worth.{turned, trialPasses, trial, tableOf, lost, gained, change, line, tried, lines, worthRefusals, Valued, worthDone, worth}
 use Rattle.hop_laws.specs.Same.{Same}
 use Rattle.hop_laws.specs.Fine.{Fine}
-use Rattle.hop_laws.proofs.Tests.{tells-lt, choose-else}
 use Rattle.hop_laws.proofs.Words.{joined-same}
 use Rattle.hop_laws.proofs.Stored.{nodes-append}
 use Rattle.hop_laws.proofs.Tails.{nodes-same, read-same}
@@ -35,23 +35,23 @@ use Rattle.hop_rest.proofs.Settling.{judged-rest}
 use Rattle.hop_rest.proofs.Same.{up-same, down-same, passes-same, total-same, made-same, delivered-same}
 use Rattle.hop_rest.proofs.Tails.{state-judged, tails-unread}
 use Rattle.hop_rest.proofs.Changes.{Agree, lost-same, change-same}
-use Rattle.hop_rest.proofs.Worth.{turned-nodes, turned-sound, line-fits, line-tells}
+use Rattle.hop_rest.proofs.Worth.{turned-nodes, turned-sound, line-fits, lines-run, lines-tell}
 use Rattle.hop_rest.proofs.Lines.{listed-stands}
 
 -- ---- lines of states that are the same below n
 
 module _ {s t : State} (o : Sound s) (e : Same s t) where
-  module _ (a b : ℕ) (ascends : a < b) (inside : b < s .n) where
+  module _ (a b : ℕ) (so : tried s a b ≡ true) (low : a < s .n) (inside : b < s .n) where
     turned-same : Same (turned s a b) (turned t a b)
     unfolding turned
-    turned-same = rw (← e .link a b (omega arith) inside) (either (eqb (s .link a b) 1))
+    turned-same = rw (← e .link a b low inside) (either (eqb (s .link a b) 1))
       where
         either : (c : Bool) → Same (cond c (linkDown s a b) (linkUp s a b)) (cond c (linkDown t a b) (linkUp t a b))
-        either true = down-same e a b (omega arith) inside
+        either true = down-same e a b low inside
         either false = up-same e a b
 
     sound : Sound (turned s a b)
-    sound = turned-sound s a b o ascends inside
+    sound = turned-sound s a b so o inside
 
     trial-passes-same : trialPasses s a b ≡ trialPasses t a b
     unfolding trialPasses
@@ -85,15 +85,18 @@ module _ {s t : State} (o : Sound s) (e : Same s t) where
         change-as : change (s .n) (tableOf s) (tableOf (trial s a b)) ≡ change (t .n) (tableOf t) (tableOf (trial t a b))
         change-as = change-same (s .n) _ _ _ _ (e .distance) after ∙ ap (λ m. change m (tableOf t) (tableOf (trial t a b))) (e .n)
 
+  tried-same : (a b : ℕ) → a < s .n → b < s .n → tried s a b ≡ tried t a b
+  tried-same a b la lb = rw (e .link a b la lb, e .link b a lb la)
+
   lines-same : lines s ≡ lines t
   unfolding lines
   lines-same =
-      joined-same (s .n) _ _ (λ a la. joined-same (s .n) _ _ (λ b lb. at a b lb (decLt a b)))
-      ∙ ap (λ m. joined m (λ a. joined m (λ b. if ltb a b then line t a b ∷ [] else []))) (e .n)
+      joined-same (s .n) _ _ (λ a la. joined-same (s .n) _ _ (λ b lb. at a b la lb (tried s a b) refl))
+      ∙ ap (λ m. joined m (λ a. joined m (λ b. if tried t a b then line t a b ∷ [] else []))) (e .n)
     where
-      at : (a b : ℕ) → b < s .n → Dec (a < b) → (if ltb a b then line s a b ∷ [] else []) ≡ (if ltb a b then line t a b ∷ [] else [])
-      at a b inside (yes l) = rw (line-same a b l inside)
-      at a b inside (no f) = choose-else (tells-lt a b) _ _ f ∙ sym (choose-else (tells-lt a b) _ _ f)
+      at : (a b : ℕ) → a < s .n → b < s .n → (c : Bool) → tried s a b ≡ c → (if tried s a b then line s a b ∷ [] else []) ≡ (if tried t a b then line t a b ∷ [] else [])
+      at a b la lb true so = rw (← tried-same a b la lb, so, line-same a b so la lb)
+      at a b la lb false none = rw (← tried-same a b la lb, none)
 
 -- ---- bytes behind the form
 
@@ -143,7 +146,8 @@ worth-tells s trial list done =
     let rest = judged-rest (read s) none in
     let few : nodes s ≤ 255 = omega (arith, fine .most) in
     record {
-      tells = λ a b ascends inside. (line-tells (read s) (fine .sound .state) rest few a b ascends inside, line-fits (read s) (fine .sound .state) (fine .most) a b ascends inside);
-      stands = λ a b ascends inside. ap (λ (v : Valued). take 7 (drop (7 * placeOf (nodes s) a b) (v .list))) (worth-done s trial list z) ∙ listed-stands (read s) list a b ascends inside;
+      runs = λ a b so inside. (lines-run (read s) (fine .sound .state) rest few a b so inside, line-fits (read s) (fine .sound .state) (fine .most) a b so inside);
+      tells = λ agree a b ascends inside. lines-tell (read s) (fine .sound .state) rest agree few a b ascends inside;
+      stands = λ a b so inside. ap (λ (v : Valued). take 7 (drop (7 * placeOf (read s) a b) (v .list))) (worth-done s trial list z) ∙ listed-stands (read s) list a b so inside;
       copy = rw (worth-done s trial list z) (copy-accepted s _ fine);
     }

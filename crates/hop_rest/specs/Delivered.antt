@@ -6,20 +6,21 @@ use Prim.Native.Nat.{ℕ, _≤_, _<_}
 use lib.ListN.{length}
 use Rattle.hop_rule.specs.State.{State, Entry}
 use Rattle.hop_rule.specs.Rule.{send}
-use Rattle.hop_rule.specs.Sound.{Sends, Sound}
+use Rattle.hop_rule.specs.Sound.{Linked, Sends, Sound}
 use Rattle.hop_rest.specs.Orders.{Queue, count}
 
--- s is a sound state over the links of g, as every state of a run from g is.
+-- s is a sound state over the links of g, and has the views of g where the other end is down, as every state of a run from g does.
 pub record Over (g s : State) : Type 0 where
   pub sound : Sound s
   pub nodes : s .n ≡ g .n
   pub links : (u w : ℕ) → u < g .n → w < g .n → s .link u w ≡ g .link u w
+  pub trusted : (u w v : ℕ) → u < g .n → w < g .n → v < g .n → (Linked g w u → ⊥) → s .view u w v ≡ g .view u w v
 
 -- A delivery from w to u takes s to t, over the links of g.
 pub record Delivered (g s : State) (w u : ℕ) (t : State) : Type 0 where
   pub sender : w < g .n
   pub receiver : u < g .n
-  pub linked : g .link u w ≡ 1
+  pub linked : Sends g w u
   -- what left
   pub head : Entry
   pub rest : List Entry

@@ -15,7 +15,6 @@ pub record Brings (n : ℕ) (distance view : ℕ → ℕ) (q : List Entry) : Typ
 -- All of sound but the tables.
 pub record Steady (s : State) : Type 0 where
   pub bits : (u w : ℕ) → u < s .n → w < s .n → s .link u w ≤ 1
-  pub symmetric : (u w : ℕ) → u < s .n → w < s .n → s .link u w ≡ s .link w u
   pub diagonal : (u : ℕ) → u < s .n → s .link u u ≡ 0
   pub views : (u w v : ℕ) → u < s .n → w < s .n → v < s .n → s .view u w v ≤ s .n
   pub down-views : (u w v : ℕ) → u < s .n → w < s .n → v < s .n → (Linked s u w → ⊥) → s .view u w v ≡ s .n

@@ -1,4 +1,4 @@
--- Coming to rest, said of bytes and of the public calls alone: what a run, and what single deliveries in any order, leave of a buffer that check accepts. Uses Walks, Orders and hop_rule's Calls.
+-- Coming to rest, said of bytes and of the public calls alone: what a run, and what single deliveries in any order, leave of a buffer that check accepts; and right routes, where no link has just one end up. Uses Walks, Orders and hop_rule's Notice and Calls.
 use mathlib.Core.Path.{_≡_}
 use mathlib.Core.Logic.{_↔_}
 use mathlib.Core.List.{List, [], _∷_, flatten}
@@ -6,6 +6,7 @@ use Prim.Native.Nat.{ℕ, suc, _*_, _-_, _≤_, _<_}
 use lib.ListN.{length}
 use Rattle.hop_rule.specs.Stored.{nodes, read}
 use Rattle.hop_rule.specs.Route.{Way}
+use Rattle.hop_rule.specs.Notice.{EndsAgree}
 use Rattle.hop_rule.specs.Calls.{Call, check, deliver, run, route, queueLength, totalQueued, Outcome, answerAt, restored, outcome}
 use Rattle.hop_rest.specs.Walks.{Walk, HopCount, Nearer}
 use Rattle.hop_rest.specs.Orders.{Queue, deliveries, count, Pass, deliveriesIn}
@@ -18,12 +19,15 @@ asked c s = answerAt 0 (outcome c s [])
 abbrev pub askedRoute : ℕ → ℕ → List ℕ → Way
 askedRoute u v s = let o = outcome (route u v) s [] in record { distance = answerAt 0 o; downstream = answerAt 1 o }
 
--- The buffer t has settled over the links of the buffer s:
-pub record SettledBytes (s t : List ℕ) : Type 0 where
-  -- check accepts it, it has as many nodes, and nothing is queued there;
+-- The buffer t is that of s come to rest: check accepts it, it has as many nodes, and nothing is queued there.
+pub record RestedBytes (s t : List ℕ) : Type 0 where
   pub accepted : outcome check t [] .number ≡ 0
   pub same-nodes : nodes t ≡ nodes s
   pub nothing-queued : asked totalQueued t ≡ 0
+
+-- It has settled over the links of s:
+pub record SettledBytes (s t : List ℕ) : Type 0 where
+  pub rested : RestedBytes s t
   -- of each route asked for the distance is the hop count,
   pub distances : (u v : ℕ) → u < nodes s → v < nodes s → HopCount (read s) u v (askedRoute u v t .distance)
   -- and the downstream the node itself for itself, 255 without a path, and otherwise the lowest-numbered neighbour one hop nearer.
@@ -33,14 +37,15 @@ pub record SettledBytes (s t : List ℕ) : Type 0 where
 
 -- ---- a run
 
--- A run with allowance k settles the buffer s:
+-- A run with allowance k brings the buffer s to rest:
 pub record RunSettles (s : List ℕ) (k : ℕ) : Type 0 where
   -- it answers 0, with at most n passes and n³(n − 1) deliveries,
   pub done : outcome (run k) s [] .number ≡ 0
   pub passes-most : answerAt 0 (outcome (run k) s []) ≤ nodes s
   pub deliveries-most : answerAt 1 (outcome (run k) s []) ≤ nodes s * nodes s * nodes s * (nodes s - 1)
-  -- and what it leaves has settled.
-  pub settled : SettledBytes s (outcome (run k) s [] .bytes)
+  -- what it leaves is at rest, and has settled if no link has just one end up.
+  pub rested : RestedBytes s (outcome (run k) s [] .bytes)
+  pub settled : EndsAgree (read s) → SettledBytes s (outcome (run k) s [] .bytes)
 
 -- ---- single deliveries
 
@@ -65,15 +70,16 @@ abbrev pub PassesBytes : List ℕ → List (List Queue) → Type 0
 PassesBytes s [] = Unit {0}
 PassesBytes s (p ∷ ps) = PassBytes s p × PassesBytes (delivering s p) ps
 
--- Single deliveries settle the buffer s:
+-- Single deliveries bring the buffer s to rest:
 pub record DeliveriesSettle (s : List ℕ) : Type 0 where
   -- its passes are those of the state that it holds;
   pub passes : (qs : List Queue) → PassBytes s qs ↔ Pass (read s) qs
   -- no delivery of passes one after another is refused, and they are at most n³(n − 1);
   pub none-refused : (ps : List (List Queue)) → PassesBytes s ps → NoneRefused s (flatten ps)
   pub deliveries-most : (ps : List (List Queue)) → PassesBytes s ps → deliveriesIn ps ≤ nodes s * nodes s * nodes s * (nodes s - 1)
-  -- after n passes it has settled;
-  pub settles : (ps : List (List Queue)) → PassesBytes s ps → nodes s ≤ length ps → SettledBytes s (delivering s (flatten ps))
+  -- after n passes it is at rest, and has settled if no link has just one end up;
+  pub rests : (ps : List (List Queue)) → PassesBytes s ps → nodes s ≤ length ps → RestedBytes s (delivering s (flatten ps))
+  pub settles : EndsAgree (read s) → (ps : List (List Queue)) → PassesBytes s ps → nodes s ≤ length ps → SettledBytes s (delivering s (flatten ps))
   -- deliveries that are not refused, of passes or not, leave the rule's state after them, and the bytes behind it as they were;
   pub left : (qs : List Queue) → NoneRefused s qs → delivering s qs ≡ restored (deliveries (read s) qs) s
   -- and at every moment, whatever was called, check accepts the buffer and at most n²(n − 1) entries wait.

@@ -1,4 +1,4 @@
--- Coming to rest, as a statement: what follows from soundness and no link event, over n. Uses Walks, Orders and hop_rule's Rule.
+-- Coming to rest, as a statement: what follows from soundness and no link event, over n. Right distances and downstreams suppose besides that no link has just one end up. Uses Walks, Orders and hop_rule's Rule and Notice.
 use mathlib.Core.Path.{_≡_}
 use mathlib.Core.List.{List, []}
 use Prim.Native.Nat.{ℕ, suc, _*_, _-_, _≤_, _<_}
@@ -6,6 +6,7 @@ use lib.ListN.{length}
 use Rattle.hop_rule.specs.State.{State}
 use Rattle.hop_rule.specs.Rule.{total, waitingFor, pass, passes, made, delivered}
 use Rattle.hop_rule.specs.Sound.{Sound}
+use Rattle.hop_rule.specs.Notice.{EndsAgree}
 use Rattle.hop_rest.specs.Walks.{Walk, HopCount, Nearer}
 use Rattle.hop_rest.specs.Orders.{Queue, Nodes, deliveries, Pass, ascending, Passes, after, deliveriesIn}
 
@@ -27,8 +28,10 @@ pub record Settled (s t : State) : Type 0 where
 
 -- From s the net comes to rest:
 pub record ComesToRest (s : State) : Type 0 where
-  -- after n passes in any order it has settled,
-  pub settles : (ps : List (List Queue)) → Passes s ps → s .n ≤ length ps → Settled s (after s ps)
+  -- after n passes in any order every queue is empty,
+  pub rests : (ps : List (List Queue)) → Passes s ps → s .n ≤ length ps → AtRest (after s ps)
+  -- and it has settled if no link has just one end up,
+  pub settles : EndsAgree s → (ps : List (List Queue)) → Passes s ps → s .n ≤ length ps → Settled s (after s ps)
   -- and no passes make more than n³(n − 1) deliveries;
   pub deliveries-most : (ps : List (List Queue)) → Passes s ps → deliveriesIn ps ≤ s .n * s .n * s .n * (s .n - 1)
   -- at no moment, whatever was delivered, do more than n²(n − 1) entries wait, nor more than n(n − 1) for one node;
@@ -36,10 +39,11 @@ pub record ComesToRest (s : State) : Type 0 where
   pub waiting-for-most : (qs : List Queue) → Nodes (s .n) qs → (u : ℕ) → u < s .n → waitingFor (deliveries s qs) u ≤ s .n * (s .n - 1)
   -- the rule's own pass is such a pass,
   pub pass-ascends : Pass s (ascending s) × (deliveries s (ascending s) ≡ pass s)
-  -- so that a run makes at most n passes and n³(n − 1) deliveries, and has settled if it may make n passes.
+  -- so that a run makes at most n passes and n³(n − 1) deliveries, and if it may make n passes nothing is queued, and it has settled if no link has just one end up.
   pub made-most : (k : ℕ) → made s k ≤ s .n
   pub delivered-most : (k : ℕ) → delivered s (made s k) ≤ s .n * s .n * s .n * (s .n - 1)
-  pub run-settles : (k : ℕ) → s .n ≤ k → Settled s (passes s (made s k)) × (total (passes s (made s k)) ≡ 0)
+  pub run-rests : (k : ℕ) → s .n ≤ k → total (passes s (made s k)) ≡ 0
+  pub run-settles : EndsAgree s → (k : ℕ) → s .n ≤ k → Settled s (passes s (made s k))
 
 -- The claim, of every sound state.
 abbrev pub EverySoundStateRests : Type 0

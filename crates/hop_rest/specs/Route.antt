@@ -1,4 +1,4 @@
--- Why forwarding may believe R-4's answer at any moment: of every buffer that check accepts, at rest or not, the two numbers are of one state and fit each other; at rest they are right; and a refusal gives neither. Uses Accepted, OnBytes and hop_rule's Route and Calls.
+-- Why forwarding may believe R-4's answer at any moment: of every buffer that check accepts, at rest or not, the two numbers are of one state and fit each other; at rest they are right; and a refusal gives neither. Uses Accepted, OnBytes and hop_rule's Route, Notice and Calls.
 use mathlib.Core.Path.{_≡_}
 use mathlib.Core.Logic.{_↔_, _≢_}
 use mathlib.Core.List.{List, []}
@@ -6,6 +6,7 @@ use Prim.Native.Nat.{ℕ, suc, _≤_, _<_}
 use Rattle.hop_rule.specs.State.{State}
 use Rattle.hop_rule.specs.Route as question
 use Rattle.hop_rule.specs.Sound.{Linked}
+use Rattle.hop_rule.specs.Notice.{EndsAgree}
 use Rattle.hop_rule.specs.Stored.{nodes, read}
 use Rattle.hop_rule.specs.Calls.{route, totalQueued, outcome}
 use Rattle.hop_rest.specs.Accepted.{Accepted}
@@ -36,9 +37,9 @@ pub record RouteTells (s : List ℕ) (u v : ℕ) : Type 0 where
 abbrev pub EveryRouteTells : Type 0
 EveryRouteTells = (s : List ℕ) → Accepted s → (u v : ℕ) → u < nodes s → v < nodes s → RouteTells s u v
 
--- Where nothing is queued, every route is right over the links of that very buffer, whoever brought it to rest.
+-- Where nothing is queued and no link has just one end up, every route is right over the links of that very buffer, whoever brought it to rest.
 abbrev pub RestingRoutesRight : Type 0
-RestingRoutesRight = (s : List ℕ) → Accepted s → asked totalQueued s ≡ 0 → SettledBytes s s
+RestingRoutesRight = (s : List ℕ) → Accepted s → asked totalQueued s ≡ 0 → EndsAgree (read s) → SettledBytes s s
 
 -- Refused, whatever the bytes and the arguments: 0 and 0, and not n and 255.
 abbrev pub RefusedRouteIs0 : Type 0

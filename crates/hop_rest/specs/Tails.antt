@@ -5,7 +5,7 @@ use Prim.Native.Nat.{ℕ, _≤_}
 use lib.ListN.{length, drop}
 use Rattle.hop_rule.specs.Rule.{fresh}
 use Rattle.hop_rule.specs.Stored.{size, stored, nodes}
-use Rattle.hop_rule.specs.Calls.{Call, make, check, up, down, deliver, pass, run, route, queueLength, totalQueued, status, writeEvent, outcome}
+use Rattle.hop_rule.specs.Calls.{Call, make, check, up, down, notice, deliver, pass, run, route, queueLength, totalQueued, status, writeEvent, outcome}
 
 -- How many bytes of the buffer are a call's form: those of the n asked for where a state is made, none where an event is written, and otherwise those of the n that the first byte claims.
 unfoldable pub form : Call → List ℕ → ℕ
@@ -13,6 +13,7 @@ form (make n) s = size n
 form check s = size (nodes s)
 form (up a b) s = size (nodes s)
 form (down a b) s = size (nodes s)
+form (notice a b) s = size (nodes s)
 form (deliver w u) s = size (nodes s)
 form pass s = size (nodes s)
 form (run k) s = size (nodes s)

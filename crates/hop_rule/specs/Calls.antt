@@ -1,5 +1,5 @@
 -- 01, 'Refusal numbers', and every public call: its refusals in the order in which they are judged, and what it gives where none applies.
--- A call has a buffer s, which holds the state, and an output out, [] where it writes none. Uses Rule, Route, Stored, Sound and Records.
+-- A call has a buffer s, which holds the state, and an output out, [] where it writes none. Uses Rule, Notice, Route, Stored, Sound and Records.
 use mathlib.Core.Bool.{Bool, not, _||_}
 use mathlib.Core.List.{List, [], _∷_, _++_}
 use Prim.Native.Nat.{ℕ}
@@ -9,6 +9,7 @@ use Rattle.hop_rule.specs.declared.Event.{Event}
 use Rattle.hop_rule.specs.State.{State}
 use Rattle.hop_rule.specs.Words.{if_then_else_}
 use Rattle.hop_rule.specs.Rule as rule
+use Rattle.hop_rule.specs.Notice as ends
 use Rattle.hop_rule.specs.Route as question
 use Rattle.hop_rule.specs.Stored.{size, stored, nodes, read}
 use Rattle.hop_rule.specs.Sound.{isSoundBytes}
@@ -20,6 +21,8 @@ pub data Call : Type 0 where
   check : Call
   up : ℕ → ℕ → Call
   down : ℕ → ℕ → Call
+  -- noticing end, other end
+  notice : ℕ → ℕ → Call
   deliver : ℕ → ℕ → Call
   pass : Call
   run : ℕ → Call
@@ -58,11 +61,22 @@ noNode s a = record { number = 4; applies = leb (nodes s) a }
 abbrev pub oneNode : ℕ → ℕ → Refusal
 oneNode a b = record { number = 5; applies = eqb a b }
 
+-- Link up: both ends are up; 02, R-5, judged in the same place: one still is.
 abbrev pub isUp : List ℕ → ℕ → ℕ → Refusal
-isUp s a b = record { number = 6; applies = rule.up (read s) a b }
+isUp s a b = record { number = 6; applies = rule.sends (read s) a b }
 
+abbrev pub stillUp : List ℕ → ℕ → ℕ → Refusal
+stillUp s a b = record { number = 13; applies = ends.oneEnded (read s) a b }
+
+-- Link down: both ends are down. A notice: the noticing end is, as its notice is already given or the link was never up. Delivery: either end is.
 abbrev pub isDown : List ℕ → ℕ → ℕ → Refusal
-isDown s a b = record { number = 7; applies = not (rule.up (read s) a b) }
+isDown s a b = record { number = 7; applies = not (rule.up (read s) a b || rule.up (read s) b a) }
+
+abbrev pub endDown : List ℕ → ℕ → ℕ → Refusal
+endDown s a b = record { number = 7; applies = not (rule.up (read s) a b) }
+
+abbrev pub notSending : List ℕ → ℕ → ℕ → Refusal
+notSending s w u = record { number = 7; applies = not (rule.sends (read s) w u) }
 
 abbrev pub nothingWaits : List ℕ → ℕ → ℕ → Refusal
 nothingWaits s w u = record { number = 8; applies = eqb (length (read s .queue w u)) 0 }
@@ -71,16 +85,21 @@ nothingWaits s w u = record { number = 8; applies = eqb (length (read s .queue w
 abbrev pub notAtRest : List ℕ → Refusal
 notAtRest s = record { number = 12; applies = not (rule.atRest (read s)) }
 
--- Order for calls on a state: empty buffer 2, then 1, short buffer 2, 3, 4, 5, 6 or 7, 8, by 02 then 12, last an output that is too short 2. Making a state: 1, then 2.
+-- 02, R-5, for R-3: a link of the state has just one end up.
+abbrev pub someOneEnded : List ℕ → Refusal
+someOneEnded s = record { number = 13; applies = not (ends.endsAgree (read s)) }
+
+-- Order for calls on a state: empty buffer 2, then 1, short buffer 2, 3, 4, 5, 6, 7 or by 02 13, 8, by 02 then 12 and R-3's 13, last an output that is too short 2. Making a state: 1, then 2.
 abbrev pub onState : List ℕ → List Refusal → List Refusal
 onState s more = empty s ∷ badCount (nodes s) ∷ short s (size (nodes s)) ∷ notSound s ∷ more
 
 unfoldable pub refusals : Call → List ℕ → List ℕ → List Refusal
 refusals (make n) s out = badCount n ∷ short s (size n) ∷ []
 refusals check s out = onState s []
-refusals (up a b) s out = onState s (noNode s a ∷ noNode s b ∷ oneNode a b ∷ isUp s a b ∷ [])
+refusals (up a b) s out = onState s (noNode s a ∷ noNode s b ∷ oneNode a b ∷ isUp s a b ∷ stillUp s a b ∷ [])
 refusals (down a b) s out = onState s (noNode s a ∷ noNode s b ∷ oneNode a b ∷ isDown s a b ∷ [])
-refusals (deliver w u) s out = onState s (noNode s w ∷ noNode s u ∷ oneNode w u ∷ isDown s w u ∷ nothingWaits s w u ∷ [])
+refusals (notice a b) s out = onState s (noNode s a ∷ noNode s b ∷ oneNode a b ∷ endDown s a b ∷ [])
+refusals (deliver w u) s out = onState s (noNode s w ∷ noNode s u ∷ oneNode w u ∷ notSending s w u ∷ nothingWaits s w u ∷ [])
 refusals pass s out = onState s []
 refusals (run k) s out = onState s []
 refusals (route u v) s out = onState s (noNode s u ∷ noNode s v ∷ [])
@@ -123,7 +142,8 @@ unfoldable pub done : Call → List ℕ → List ℕ → Outcome
 done (make n) s out = changed (rule.fresh n) [] s out
 done check s out = answered [] s out
 done (up a b) s out = changed (rule.linkUp (read s) a b) [] s out
-done (down a b) s out = changed (rule.linkDown (read s) a b) [] s out
+done (down a b) s out = changed (ends.linkDown (read s) a b) [] s out
+done (notice a b) s out = changed (ends.notice (read s) a b) [] s out
 done (deliver w u) s out = changed (rule.deliver (read s) w u) [] s out
 done pass s out = changed (rule.pass (read s)) (rule.total (read s) ∷ []) s out
 done (run k) s out = let m = rule.made (read s) k in changed (rule.passes (read s) m) (m ∷ rule.delivered (read s) m ∷ []) s out

@@ -4,6 +4,7 @@ pub mod Route
 pub mod Rule
 pub mod Stored
 pub mod Sound
+pub mod Notice
 pub mod Records
 pub mod Calls
 pub mod Fixed
@@ -15,3 +16,4 @@ pub mod Readings
 pub mod WorthTable
 pub mod WhyTable
 pub mod RouteTable
+pub mod NoticeTable

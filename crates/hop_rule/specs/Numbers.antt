@@ -6,9 +6,10 @@ use lib.ListN.{replicate}
 use Rattle.hop_rule.specs.Words.{loop, sum, listed, joined, every, first}
 use Rattle.hop_rule.specs.State.{Entry}
 use Rattle.hop_rule.specs.Rule as rule
-use Rattle.hop_rule.specs.Rule.{least, distanceOf, downstreamOf, send, recompute, hear, linkUp, cut, recomputeAll, linkDown, total, waitingFor, waitingFrom, reached, passes, made, delivered, fresh}
+use Rattle.hop_rule.specs.Rule.{least, distanceOf, downstreamOf, send, recompute, hear, linkUp, recomputeAll, total, waitingFor, waitingFrom, reached, passes, made, delivered, fresh}
 use Rattle.hop_rule.specs.Stored.{size, grid, cube, destinationAt, valueAt, block, stored, start, nodes, flat, deep, readAs, read}
 use Rattle.hop_rule.specs.Sound.{waits, differ, each, pairs, triples, isSound, isSoundAs}
+use Rattle.hop_rule.specs.Notice.{lose, notice, missing, linkDown}
 use Rattle.hop_rule.specs.Records.{words, recordOf, statusRecord, written}
 use Rattle.hop_rule.specs.Calls.{Call, make, up, down, deliver, pass, run, route, queueLength, totalQueued, status, judge, refusals, Outcome, answered, done, outcome}
 
@@ -118,5 +119,5 @@ table =
 
 -- The one statement: in every case what is seen is what 01 gives.
 pub table-holds : map observed table ≡ map expected table
-unfolding seen given observed expected table after look entries outcome done refusals judge written statusRecord recordOf words isSoundAs isSound triples pairs each differ waits readAs deep flat nodes start stored block valueAt destinationAt cube grid size fresh delivered made passes reached waitingFrom waitingFor total rule.pass linkDown recomputeAll cut linkUp rule.deliver hear recompute send downstreamOf distanceOf least first every joined listed sum loop
+unfolding seen given observed expected table after look entries outcome done refusals judge written statusRecord recordOf words isSoundAs isSound triples pairs each differ waits readAs deep flat nodes start stored block valueAt destinationAt cube grid size fresh delivered made passes reached waitingFrom waitingFor total rule.pass linkDown missing notice lose recomputeAll linkUp rule.deliver hear recompute send downstreamOf distanceOf least first every joined listed sum loop
 table-holds = refl

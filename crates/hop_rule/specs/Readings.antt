@@ -2,7 +2,7 @@
 use mathlib.Core.Path.{_≡_, refl}
 use mathlib.Core.List.{List, [], _∷_, _++_, map}
 use Prim.Native.Nat.{ℕ}
-use Rattle.hop_rule.specs.declared.Event.the-variants.{Make, Up, Down, Deliver, Pass}
+use Rattle.hop_rule.specs.declared.Event.the-variants.{Make, Up, Down, Deliver, Pass, Notice}
 use Rattle.hop_rule.specs.declared.Reading.{Reading}
 use Rattle.hop_rule.specs.declared.Reading.the-variants.{Found, End, Refused}
 use Rattle.hop_rule.specs.Records.{words, wordAt, recordOf, kindOf, bodyOf, eventRecord, known, lengthOf, eventOf, readEvent}
@@ -37,12 +37,18 @@ samples =
     -- body numbers run to 65,535
     ∷ at (6 ∷ 0 ∷ 17 ∷ 0 ∷ 255 ∷ 255 ∷ 0 ∷ 1 ∷ []) 0 (Found (Down 65535 256) 8)
     ∷ at (6 ∷ 0 ∷ 18 ∷ 0 ∷ 1 ∷ 0 ∷ 2 ∷ 0 ∷ 7 ∷ []) 0 (Found (Deliver 1 2) 8)
+    -- R-5's kind 20, noticing end first
+    ∷ at (eventRecord (Notice 3 1)) 0 (Found (Notice 3 1) 8)
+    ∷ at (6 ∷ 0 ∷ 20 ∷ 0 ∷ 1 ∷ 0 ∷ 2 ∷ 0 ∷ []) 0 (Found (Notice 1 2) 8)
     -- fewer than 4 bytes 9; then an unknown kind 10, a status record too; a wrong length 11, cut or not; a cut body 9
     ∷ at (4 ∷ 0 ∷ 15 ∷ []) 0 (Refused 9)
     ∷ at (12 ∷ 0 ∷ 1 ∷ 0 ∷ []) 0 (Refused 10)
+    ∷ at (6 ∷ 0 ∷ 21 ∷ 0 ∷ 1 ∷ 0 ∷ 2 ∷ 0 ∷ []) 0 (Refused 10)
     ∷ at (6 ∷ 0 ∷ 15 ∷ 0 ∷ []) 0 (Refused 11)
     ∷ at (2 ∷ 0 ∷ 15 ∷ 0 ∷ 2 ∷ 0 ∷ []) 0 (Refused 11)
+    ∷ at (2 ∷ 0 ∷ 20 ∷ 0 ∷ []) 0 (Refused 11)
     ∷ at (4 ∷ 0 ∷ 15 ∷ 0 ∷ 2 ∷ []) 0 (Refused 9)
+    ∷ at (6 ∷ 0 ∷ 20 ∷ 0 ∷ 1 ∷ 0 ∷ 2 ∷ []) 0 (Refused 9)
     ∷ []
 
 -- The one statement: each sample is read as it says.

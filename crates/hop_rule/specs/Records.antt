@@ -5,7 +5,7 @@ use Prim.Native.Nat.{ℕ, _+_, _*_, _/_, _%_}
 use lib.Dec.{eqb, ltb}
 use lib.ListN.{length, getD, drop}
 use Rattle.hop_rule.specs.declared.Event.{Event}
-use Rattle.hop_rule.specs.declared.Event.the-variants.{Make, Up, Down, Deliver, Pass}
+use Rattle.hop_rule.specs.declared.Event.the-variants.{Make, Up, Down, Deliver, Pass, Notice}
 use Rattle.hop_rule.specs.declared.Reading.{Reading}
 use Rattle.hop_rule.specs.declared.Reading.the-variants.{Found, End, Refused}
 use Rattle.hop_rule.specs.Words.{if_then_else_}
@@ -24,13 +24,14 @@ wordAt s p = getD s p 0 + 256 * getD s (p + 1) 0
 unfoldable pub recordOf : ℕ → List ℕ → List ℕ
 recordOf kind body = words ((2 + 2 * length body) ∷ kind ∷ body)
 
--- Events: 15 make, 16 up, 17 down, 18 deliver from first to second, 19 pass.
+-- Events: 15 make, 16 up, 17 down, 18 deliver from first to second, 19 pass; by 02, R-5, 20 notice by the first end that its link to the second is lost.
 unfoldable pub kindOf : Event → ℕ
 kindOf (Make n) = 15
 kindOf (Up a b) = 16
 kindOf (Down a b) = 17
 kindOf (Deliver w u) = 18
 kindOf Pass = 19
+kindOf (Notice a b) = 20
 
 unfoldable pub bodyOf : Event → List ℕ
 bodyOf (Make n) = n ∷ []
@@ -38,6 +39,7 @@ bodyOf (Up a b) = a ∷ b ∷ []
 bodyOf (Down a b) = a ∷ b ∷ []
 bodyOf (Deliver w u) = w ∷ u ∷ []
 bodyOf Pass = []
+bodyOf (Notice a b) = a ∷ b ∷ []
 
 unfoldable pub eventRecord : Event → List ℕ
 eventRecord e = recordOf (kindOf e) (bodyOf e)
@@ -50,9 +52,9 @@ statusRecord s u = recordOf 1 (u ∷ waitingFor s u ∷ waitingFrom s u ∷ reac
 unfoldable pub written : {A : Type 0} → List A → List A → List A
 written r out = r ++ drop (length r) out
 
--- Reading knows the five event kinds only; each has its length.
+-- Reading knows the six event kinds only; each has its length.
 unfoldable pub known : ℕ → Bool
-known kind = eqb kind 15 || (eqb kind 16 || (eqb kind 17 || (eqb kind 18 || eqb kind 19)))
+known kind = eqb kind 15 || (eqb kind 16 || (eqb kind 17 || (eqb kind 18 || (eqb kind 19 || eqb kind 20))))
 
 unfoldable pub lengthOf : ℕ → ℕ
 lengthOf kind = if eqb kind 15 then 4 else if eqb kind 19 then 2 else 6
@@ -64,7 +66,8 @@ eventOf kind first second =
     else if eqb kind 16 then Up first second
     else if eqb kind 17 then Down first second
     else if eqb kind 18 then Deliver first second
-    else Pass
+    else if eqb kind 19 then Pass
+    else Notice first second
 
 -- The event of a known kind whose body begins at p.
 abbrev pub eventAt : ℕ → List ℕ → ℕ → Event

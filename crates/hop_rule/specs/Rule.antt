@@ -5,16 +5,16 @@ use Prim.Native.Nat.{ℕ, zero, suc, min}
 use lib.Dec.{eqb}
 use lib.ListN.{length}
 use Rattle.hop_rule.specs.Words.{if_then_else_, loop, sum, listed, first}
-use Rattle.hop_rule.specs.State.{State, Entry, withLink, withRoute, withViews, withView, withQueues, withQueue}
+use Rattle.hop_rule.specs.State.{State, Entry, withLink, withRoute, withView, withQueues, withQueue}
 use Rattle.hop_rule.specs.Route.{route, routed}
 
 -- u's own end of the link to w is up, where its byte is exactly 1. By it u looks at its views from w.
 abbrev pub up : State → ℕ → ℕ → Bool
 up s u w = eqb (s .link u w) 1
 
--- w sends to u: the queue from w to u is in use. By the sender's end.
+-- What w sends to u gets there: both ends of their link are up. By 02, R-5, what an end sends towards one that is down is dropped.
 abbrev pub sends : State → ℕ → ℕ → Bool
-sends s w u = up s w u
+sends s w u = up s w u && up s u w
 
 -- 'Recompute': the smaller of n and 1 + the least view of v over u's up links to the first k nodes.
 unfoldable pub least : State → ℕ → ℕ → ℕ → ℕ
@@ -38,7 +38,7 @@ unfoldable pub send : Entry → List Entry → List Entry
 send e [] = e ∷ []
 send e (f ∷ q) = if eqb (e .destination) (f .destination) then e ∷ q else f ∷ send e q
 
--- 'Recompute' of v at u. If the distance changed, the entry (v, new distance) is sent on each up link of u; a changed downstream alone sends nothing.
+-- 'Recompute' of v at u. If the distance changed, the entry (v, new distance) is sent on each up link of u, and dropped where the other end is down; a changed downstream alone sends nothing.
 unfoldable pub recompute : State → ℕ → ℕ → State
 recompute s u v =
     let d = distanceOf s u v in
@@ -62,20 +62,9 @@ upEnd s u w = withQueue (withLink s u w 1) u w (listed (s .n) (λ v. record { de
 unfoldable pub linkUp : State → ℕ → ℕ → State
 linkUp s a b = upEnd (upEnd s a b) b a
 
--- 'Link down', its first half: at each end the link is down, the queue to the other is emptied, and the views on it become n.
-abbrev pub cutEnd : State → ℕ → ℕ → State
-cutEnd s u w = withQueue (withViews (withLink s u w 0) u w (λ v. s .n)) u w []
-
-unfoldable pub cut : State → ℕ → ℕ → State
-cut s a b = cutEnd (cutEnd s a b) b a
-
--- u recomputes every destination, in ascending order.
+-- u recomputes every destination, in ascending order. 'Link down' is on the page Notice: by 02, R-5, its ends do not see it at one moment.
 unfoldable pub recomputeAll : State → ℕ → State
 recomputeAll s u = loop (s .n) (λ v t. recompute t u v) s
-
--- 'Link down' a, b: both ends see it at one moment, and each recomputes every destination.
-unfoldable pub linkDown : State → ℕ → ℕ → State
-linkDown s a b = recomputeAll (recomputeAll (cut s a b) a) b
 
 -- 'Pass': queues in ascending order of sender, then receiver; each gives up as many entries as it held when the pass began.
 unfoldable pub pass : State → State

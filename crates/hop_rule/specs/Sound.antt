@@ -16,9 +16,9 @@ use Rattle.hop_rule.specs.Stored.{nodes, flat, deep, readAs}
 abbrev pub Linked : State → ℕ → ℕ → Type 0
 Linked s u w = s .link u w ≡ 1
 
--- What `sends` tests: the queue from w to u is in use, by the sender's end.
+-- What `sends` tests: both ends of the link are up, so that its queues are in use.
 abbrev pub Sends : State → ℕ → ℕ → Type 0
-Sends s w u = Linked s w u
+Sends s w u = Linked s w u × Linked s u w
 
 -- v waits in the queue.
 abbrev pub Waits : ℕ → List Entry → Type 0
@@ -40,20 +40,19 @@ abbrev pub Leads : State → ℕ → ℕ → Type 0
 Leads s u v = s .downstream u v ≡ downstreamOf s u v (s .distance u v)
 
 pub record Sound (s : State) : Type 0 where
-  -- link bytes are 0 or 1, symmetric, 0 on the diagonal;
+  -- link bytes are 0 or 1, each its own end's (02, R-5), and 0 on the diagonal;
   pub bits : (u w : ℕ) → u < s .n → w < s .n → s .link u w ≤ 1
-  pub symmetric : (u w : ℕ) → u < s .n → w < s .n → s .link u w ≡ s .link w u
   pub diagonal : (u : ℕ) → u < s .n → s .link u u ≡ 0
   -- each distance and downstream is what recompute gives from the views, and views are at most n;
   pub distances : (u v : ℕ) → u < s .n → v < s .n → s .distance u v ≡ distanceOf s u v
   pub downstreams : (u v : ℕ) → u < s .n → v < s .n → Leads s u v
   pub views : (u w v : ℕ) → u < s .n → w < s .n → v < s .n → s .view u w v ≤ s .n
-  -- on a down link (and for a node with itself, whose link is down) views are n and the queue is empty;
+  -- at an end that is down (and for a node with itself, whose link is down) views are n, and on a link with an end that is down both queues are empty;
   pub down-views : (u w v : ℕ) → u < s .n → w < s .n → v < s .n → (Linked s u w → ⊥) → s .view u w v ≡ s .n
   pub down-queues : (u w : ℕ) → u < s .n → w < s .n → (Sends s w u → ⊥) → s .queue w u ≡ []
   -- a queue's length is at most n;
   pub lengths : (u w : ℕ) → u < s .n → w < s .n → length (s .queue w u) ≤ s .n
-  -- in a queue of an up link the destinations differ
+  -- in a queue of a link with both ends up the destinations differ
   pub differ : (u w : ℕ) → u < s .n → w < s .n → Sends s w u → Differ (s .queue w u)
   -- and are below n,
   pub below : (u w : ℕ) → u < s .n → w < s .n → Sends s w u → Each (λ e. e .destination < s .n) (s .queue w u)
@@ -100,7 +99,6 @@ triples n p = every n (λ a. pairs n (p a))
 unfoldable pub isSound : State → Bool
 isSound s =
     pairs (s .n) (λ u w. leb (s .link u w) 1)
-    && pairs (s .n) (λ u w. eqb (s .link u w) (s .link w u))
     && every (s .n) (λ u. eqb (s .link u u) 0)
     && pairs (s .n) (λ u v. eqb (s .distance u v) (distanceOf s u v))
     && pairs (s .n) (λ u v. leads s u v)

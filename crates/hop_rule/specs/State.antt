@@ -10,7 +10,7 @@ pub record Entry : Type 0 where
   pub destination : ℕ
   pub value : ℕ
 
--- Links that are up (1) or down, one queue in each direction of a link, and for each node its distance and its downstream neighbour for each destination. Only nodes below n mean anything.
+-- Ends of links that are up (1) or down, one queue in each direction of a link, and for each node its distance and its downstream neighbour for each destination. Only nodes below n mean anything.
 pub record State : Type 0 where
   pub n : ℕ
   -- a node and a neighbour: the node's own end of the link between them

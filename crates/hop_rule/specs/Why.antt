@@ -8,7 +8,7 @@ use Rattle.hop_rule.specs.State.{State}
 use Rattle.hop_rule.specs.Route.{route, routed}
 use Rattle.hop_rule.specs.Stored.{read}
 use Rattle.hop_rule.specs.Records.{written}
-use Rattle.hop_rule.specs.Calls.{Refusal, judge, onState, noNode, notAtRest, short}
+use Rattle.hop_rule.specs.Calls.{Refusal, judge, onState, noNode, notAtRest, someOneEnded, short}
 
 -- ---- the reason
 
@@ -40,9 +40,9 @@ shown (set l) = l
 
 -- ---- the call, on a buffer s that holds the state and a list
 
--- 4 for either number, and 12 as in R-1,
+-- 4 for either number, 12 as in R-1, and by R-5 13 if any link has just one end up,
 abbrev pub beforeList : ℕ → ℕ → List ℕ → List Refusal
-beforeList u v s = onState s (noNode s u ∷ noNode s v ∷ notAtRest s ∷ [])
+beforeList u v s = onState s (noNode s u ∷ noNode s v ∷ notAtRest s ∷ someOneEnded s ∷ [])
 
 -- then 2 if the list does not fit.
 unfoldable pub whyRefusals : ℕ → ℕ → List ℕ → List ℕ → List Refusal

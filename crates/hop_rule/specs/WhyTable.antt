@@ -8,6 +8,7 @@ use Rattle.hop_rule.specs.State.{State}
 use Rattle.hop_rule.specs.Rule.{least, distanceOf, downstreamOf, send, recompute, hear, deliver, linkUp, pass, total, passes, fresh}
 use Rattle.hop_rule.specs.Stored.{size, grid, cube, destinationAt, valueAt, block, stored, start, nodes, flat, deep, readAs}
 use Rattle.hop_rule.specs.Sound.{waits, differ, each, pairs, triples, isSound, isSoundAs}
+use Rattle.hop_rule.specs.Notice.{endsAgree}
 use Rattle.hop_rule.specs.Records.{written}
 use Rattle.hop_rule.specs.Calls.{judge}
 use Rattle.hop_rule.specs.Why.{along, joinedTo, Reason, path, set, reason, kind, shown, whyRefusals, Explained, whyDone, why}
@@ -71,7 +72,7 @@ pub call-holds :
     (called 0 2 (resting ++ 7 ∷ []) 5 ≡ record { number = 0; answers = 1 ∷ 3 ∷ []; list = 0 ∷ 1 ∷ 2 ∷ 9 ∷ 9 ∷ [] })
     × (called 2 3 resting 4 ≡ record { number = 0; answers = 2 ∷ 3 ∷ []; list = 0 ∷ 1 ∷ 2 ∷ 9 ∷ [] })
     × (called 3 3 resting 1 ≡ record { number = 0; answers = 1 ∷ 1 ∷ []; list = 3 ∷ [] })
-unfolding called resting line rested linked why whyDone whyRefusals kind shown reason along joinedTo judge written isSoundAs isSound triples pairs each differ waits readAs deep flat nodes start stored block valueAt destinationAt cube grid size fresh passes total pass linkUp deliver hear recompute send downstreamOf distanceOf least first every joined listed sum loop
+unfolding called resting line rested linked why whyDone whyRefusals kind shown reason along joinedTo judge endsAgree written isSoundAs isSound triples pairs each differ waits readAs deep flat nodes start stored block valueAt destinationAt cube grid size fresh passes total pass linkUp deliver hear recompute send downstreamOf distanceOf least first every joined listed sum loop
 call-holds = (refl, refl, refl)
 
 -- An empty buffer 2, a node count 1, a short state 2, an unsound one 3, either number 4: entries wait in the last, and 12 comes after. It comes before a list that does not fit 2, a path or a set; and a refusal leaves the list.
@@ -80,5 +81,5 @@ pub refusals-hold :
     ≡ 2 ∷ 1 ∷ 2 ∷ 3 ∷ 4 ∷ 4 ∷ 12 ∷ 2 ∷ 0 ∷ 2 ∷ 0 ∷ [])
     × (called 0 2 busy 3 ≡ record { number = 12; answers = []; list = 9 ∷ 9 ∷ 9 ∷ [] })
     × (called 0 2 resting 2 ≡ record { number = 2; answers = []; list = 9 ∷ 9 ∷ [] })
-unfolding number called resting busy line rested linked why whyDone whyRefusals kind shown reason along joinedTo judge written isSoundAs isSound triples pairs each differ waits readAs deep flat nodes start stored block valueAt destinationAt cube grid size fresh passes total pass linkUp deliver hear recompute send downstreamOf distanceOf least first every joined listed sum loop
+unfolding number called resting busy line rested linked why whyDone whyRefusals kind shown reason along joinedTo judge endsAgree written isSoundAs isSound triples pairs each differ waits readAs deep flat nodes start stored block valueAt destinationAt cube grid size fresh passes total pass linkUp deliver hear recompute send downstreamOf distanceOf least first every joined listed sum loop
 refusals-hold = (refl, refl, refl)

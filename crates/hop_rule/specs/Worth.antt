@@ -1,5 +1,5 @@
--- 02, R-1, 'What is each link worth?': a trial for every pair of nodes, a line of seven signed numbers about each, and the call. Uses Words, State, Rule, Route, Stored, Records and Calls.
-use mathlib.Core.Bool.{not, _&&_}
+-- 02, R-1, 'What is each link worth?': a trial for every pair of nodes, a line of seven signed numbers about each, and the call. Uses Words, State, Rule, Notice, Route, Stored, Records and Calls.
+use mathlib.Core.Bool.{Bool, not, _&&_}
 use mathlib.Core.List.{List, [], _∷_, _++_}
 use Prim.Native.Nat.{ℕ}
 use lib.Dec.{eqb, ltb}
@@ -7,7 +7,8 @@ use lib.IntN.{ℤ, pos, _-ℤ_}
 use lib.ListN.{length, take}
 use Rattle.hop_rule.specs.Words.{if_then_else_, sum, joined}
 use Rattle.hop_rule.specs.State.{State}
-use Rattle.hop_rule.specs.Rule.{up, linkUp, linkDown, passes, made, delivered}
+use Rattle.hop_rule.specs.Rule.{up, linkUp, passes, made, delivered}
+use Rattle.hop_rule.specs.Notice.{oneEnded, linkDown}
 use Rattle.hop_rule.specs.Route.{route, routed}
 use Rattle.hop_rule.specs.Stored.{size, nodes, read}
 use Rattle.hop_rule.specs.Records.{written}
@@ -77,9 +78,12 @@ line s a b =
       change = change (s .n) before after;
     }
 
--- One line per pair a < b, ascending.
+-- One line per pair a < b, ascending; by R-5 a pair whose link has just one end up is left out.
+abbrev pub tried : State → ℕ → ℕ → Bool
+tried s a b = ltb a b && not (oneEnded s a b)
+
 unfoldable pub lines : State → List Line
-lines s = joined (s .n) (λ a. joined (s .n) (λ b. if ltb a b then line s a b ∷ [] else []))
+lines s = joined (s .n) (λ a. joined (s .n) (λ b. if tried s a b then line s a b ∷ [] else []))
 
 -- As seven signed numbers each.
 abbrev pub seven : Line → List ℤ

@@ -6,9 +6,10 @@ use lib.IntN.{ℤ, pos, negsuc}
 use lib.ListN.{replicate, take}
 use Rattle.hop_rule.specs.Words.{loop, sum, listed, joined, every, first}
 use Rattle.hop_rule.specs.State.{State}
-use Rattle.hop_rule.specs.Rule.{least, distanceOf, downstreamOf, send, recompute, hear, deliver, linkUp, cut, recomputeAll, linkDown, pass, total, passes, made, delivered, fresh}
+use Rattle.hop_rule.specs.Rule.{least, distanceOf, downstreamOf, send, recompute, hear, deliver, linkUp, recomputeAll, pass, total, passes, made, delivered, fresh}
 use Rattle.hop_rule.specs.Stored.{size, grid, cube, destinationAt, valueAt, block, stored, start, nodes, flat, deep, readAs}
 use Rattle.hop_rule.specs.Sound.{waits, differ, each, pairs, triples, isSound, isSoundAs}
+use Rattle.hop_rule.specs.Notice.{lose, notice, missing, linkDown}
 use Rattle.hop_rule.specs.Records.{written}
 use Rattle.hop_rule.specs.Calls.{judge}
 use Rattle.hop_rule.specs.Worth.{turned, trialPasses, trial, lost, hops, change, line, lines, numbers, worthRefusals, Valued, worthDone, worth}
@@ -53,7 +54,7 @@ sites =
     ∷ []
 
 pub sites-hold : map observed sites ≡ map expected sites
-unfolding sites observed expected rested linked numbers lines line change hops lost trial trialPasses turned fresh delivered made passes total pass linkDown recomputeAll cut linkUp deliver hear recompute send downstreamOf distanceOf least first joined listed sum loop
+unfolding sites observed expected rested linked numbers lines line change hops lost trial trialPasses turned fresh delivered made passes total pass linkDown missing notice lose recomputeAll linkUp deliver hear recompute send downstreamOf distanceOf least first joined listed sum loop
 sites-hold = refl
 
 -- ---- the call
@@ -81,7 +82,7 @@ pub call-holds :
       list = pos 0 ∷ pos 1 ∷ pos 0 ∷ pos 0 ∷ pos 2 ∷ pos 0 ∷ pos 0 ∷ pos 5 ∷ pos 5 ∷ [];
     })
     × (called (stored (fresh 1)) 9 1 ≡ record { number = 0; answers = 0 ∷ []; trial = stored (fresh 1) ++ 7 ∷ []; list = pos 5 ∷ [] })
-unfolding called two rested linked worth worthDone worthRefusals judge written isSoundAs isSound triples pairs each differ waits readAs deep flat nodes start stored block valueAt destinationAt cube grid size numbers lines line change hops lost trial trialPasses turned fresh delivered made passes total pass linkDown recomputeAll cut linkUp deliver hear recompute send downstreamOf distanceOf least first every joined listed sum loop
+unfolding called two rested linked worth worthDone worthRefusals judge written isSoundAs isSound triples pairs each differ waits readAs deep flat nodes start stored block valueAt destinationAt cube grid size numbers lines line change hops lost trial trialPasses turned fresh delivered made passes total pass linkDown missing notice lose recomputeAll linkUp deliver hear recompute send downstreamOf distanceOf least first every joined listed sum loop
 call-holds = (refl, refl)
 
 -- An empty buffer 2, a node count 1, a short state 2, an unsound one 3: entries wait in the last two, and 12 comes after. It comes before a short trial buffer 2 or a short list 2; and a refusal leaves both.
@@ -89,5 +90,5 @@ pub refusals-hold :
     (number [] 0 0 ∷ number (0 ∷ []) 0 0 ∷ number (take 40 waiting) 0 0 ∷ number (2 ∷ replicate 40 1) 0 0 ∷ number waiting 0 0 ∷ number two 40 7 ∷ number two 41 6 ∷ number two 41 7 ∷ []
     ≡ 2 ∷ 1 ∷ 2 ∷ 3 ∷ 12 ∷ 2 ∷ 2 ∷ 0 ∷ [])
     × (called waiting 41 7 ≡ record { number = 12; answers = []; trial = replicate 41 7; list = replicate 7 (pos 5) })
-unfolding number called two waiting rested linked worth worthDone worthRefusals judge written isSoundAs isSound triples pairs each differ waits readAs deep flat nodes start stored block valueAt destinationAt cube grid size numbers lines line change hops lost trial trialPasses turned fresh delivered made passes total pass linkDown recomputeAll cut linkUp deliver hear recompute send downstreamOf distanceOf least first every joined listed sum loop
+unfolding number called two waiting rested linked worth worthDone worthRefusals judge written isSoundAs isSound triples pairs each differ waits readAs deep flat nodes start stored block valueAt destinationAt cube grid size numbers lines line change hops lost trial trialPasses turned fresh delivered made passes total pass linkDown missing notice lose recomputeAll linkUp deliver hear recompute send downstreamOf distanceOf least first every joined listed sum loop
 refusals-hold = (refl, refl)

@@ -13,10 +13,11 @@ use lib.ListN.{getD}
 use Rattle.hop_rule.specs.declared.Table.{Table}
 use Rattle.hop_rule.specs.declared.Table.the-variants.{Links, Distances, Downstreams, Views, Lengths, Destinations, Values}
 use Rattle.hop_rule.specs.Stored.{flat, deep, readAs}
+use Rattle.hop_rule.specs.Sound.{Linked, Sends}
 use Rattle.hop_laws.proofs.Tests.{Tells, true-not-false, tells-as, tells-not-so, tells-eq, tells-le, tells-lt, tells-not, tells-and, tells-or, tells-every}
 use Rattle.hop_cells.specs.Cells.{get}
 use Rattle.hop_rows.specs.Rows.{row, byte, bothAre}
-use Rattle.hop_sound_pairs.specs.Pairs.{linkSound, downSound, idleSound, toldSound, busySound, queueSound, upSound, pairSound}
+use Rattle.hop_sound_pairs.specs.Pairs.{linkSound, downSound, idleSound, toldSound, busySound, queueSound, waitingSound, upSound, pairSound}
 use Rattle.hop_sound.specs.Check.{routeSound, viewsSound, pastSound, sentSound, nodeSound, allSound}
 use Rattle.hop_rows.proofs.RowTests.{Reads, tells-are, tells-both, tells-below, tells-same-rows}
 use Rattle.hop_seen.proofs.Seen.{tells-differing}
@@ -45,7 +46,7 @@ digits (suc k) i l = (i / suc k, i % suc k, div-lt-iff-lt-mul (zero-lt-suc k) .1
 
 -- ---- what is judged
 
--- Of the queue from w to u on an up link.
+-- Of the queue from w to u where both ends are up.
 pub record Queued (n : ℕ) (s : List ℕ) (u w : ℕ) : Type 0 where
   pub most : flat n s Lengths w u ≤ n
   pub below : (p : ℕ) → p < flat n s Lengths w u → deep n s Destinations w u p < n
@@ -53,15 +54,14 @@ pub record Queued (n : ℕ) (s : List ℕ) (u w : ℕ) : Type 0 where
   pub differ : (p : ℕ) → p < flat n s Lengths w u → (q : ℕ) → q < p → deep n s Destinations w u q ≢ deep n s Destinations w u p
   pub heard : (v : ℕ) → v < n → ((p : ℕ) → p < flat n s Lengths w u → deep n s Destinations w u p ≢ v) → deep n s Views u w v ≡ flat n s Distances w v
 
--- Of nodes u and w.
+-- Of nodes u and w: views and routes by u's own end, and the queue by both.
 pub record Paired (n : ℕ) (s : List ℕ) (u w : ℕ) : Type 0 where
   pub bit : flat n s Links u w ≤ 1
-  pub symmetric : flat n s Links u w ≡ flat n s Links w u
   pub diagonal : u ≡ w → flat n s Links u w ≡ 0
-  pub queue : flat n s Links u w ≡ 1 → Queued n s u w
-  pub allows : flat n s Links u w ≡ 1 → (v : ℕ) → v < n → Allows n w (deep n s Views u w v) (flat n s Distances u v) (flat n s Downstreams u v)
-  pub down-views : flat n s Links u w ≢ 1 → (v : ℕ) → v < n → deep n s Views u w v ≡ n
-  pub down-queue : flat n s Links u w ≢ 1 → flat n s Lengths w u ≡ 0
+  pub queue : Sends (readAs n s) w u → Queued n s u w
+  pub allows : Linked (readAs n s) u w → (v : ℕ) → v < n → Allows n w (deep n s Views u w v) (flat n s Distances u v) (flat n s Downstreams u v)
+  pub down-views : (Linked (readAs n s) u w → ⊥) → (v : ℕ) → v < n → deep n s Views u w v ≡ n
+  pub down-queue : (Sends (readAs n s) w u → ⊥) → flat n s Lengths w u ≡ 0
 
 -- Of the places of the queue from w to u.
 pub record Sent (n : ℕ) (s : List ℕ) (w u : ℕ) : Type 0 where
@@ -123,28 +123,36 @@ module _ (n : ℕ) (s : List ℕ) where
     l : ℕ
     l = flat n s Links u w
 
+    -- w's end.
+    k : ℕ
+    k = flat n s Links w u
+
     tells-paired : Tells (pairSound n s u w) (Paired n s u w)
-    unfolding pairSound linkSound upSound downSound get flat m l
+    unfolding pairSound linkSound upSound waitingSound downSound get flat readAs m l k
     tells-paired = tells-as
         (λ h. record {
           bit = h .0 .0;
-          symmetric = h .0 .1 .0;
-          diagonal = λ e. elim (h .0 .1 .1) [ inl f ↦ absurd (f e) | inr i ↦ i ];
-          queue = λ e. h .1 .0 e .0;
+          diagonal = λ e. elim (h .0 .1) [ inl f ↦ absurd (f e) | inr i ↦ i ];
+          queue = λ q. h .1 .0 (q .1) .0 .0 (q .0);
           allows = λ e. h .1 .0 e .1;
           down-views = λ f. h .1 .1 f .1;
-          down-queue = λ f. h .1 .1 f .0;
+          down-queue = λ f. nothing f (h .1 .0) (h .1 .1) (ℕ-discrete l 1);
         })
-        (λ h. ((h .bit, (h .symmetric, ends h (ℕ-discrete u w))), ((λ e. (h .queue e, h .allows e)), λ f. (h .down-queue f, h .down-views f))))
+        (λ h. ((h .bit, ends h (ℕ-discrete u w)), ((λ e. (((λ i. h .queue (i, e)), λ f. h .down-queue (λ q. f (q .0))), h .allows e)), λ f. (h .down-queue (λ q. f (q .1)), h .down-views f))))
         (tells-and
-        (tells-and (tells-le l 1) (tells-and (tells-eq l (flat n s Links w u)) (tells-or (tells-not (tells-eq u w)) (tells-eq l 0))))
+        (tells-and (tells-le l 1) (tells-or (tells-not (tells-eq u w)) (tells-eq l 0)))
         (tells-choice (tells-eq l 1)
-        (tells-and tells-queue (tells-allow (reads-flat Distances u) (reads-deep Views u w) (reads-flat Downstreams u) n w))
+        (tells-and (tells-choice (tells-eq k 1) tells-queue (tells-eq m 0)) (tells-allow (reads-flat Distances u) (reads-deep Views u w) (reads-flat Downstreams u) n w))
         (tells-and (tells-eq m 0) (tells-are (reads-deep Views u w) n n))))
       where
         ends : Paired n s u w → Dec (u ≡ w) → (u ≢ w) ⊎ (l ≡ 0)
         ends h (yes e) = inr (h .diagonal e)
         ends h (no f) = inl f
+
+        -- Where an end is down the queue was looked at by u's own: w's is down where that is up.
+        nothing : {P Q R : Type 0} → ((k ≡ 1) × (l ≡ 1) → ⊥) → (l ≡ 1 → (P × (k ≢ 1 → m ≡ 0)) × Q) → (l ≢ 1 → (m ≡ 0) × R) → Dec (l ≡ 1) → m ≡ 0
+        nothing f up down (yes e) = up e .0 .1 (λ i. f (i, e))
+        nothing f up down (no g) = down g .0
 
   tells-given : (u v : ℕ) → Tells (routeSound n s u v) (Given (readAs n s) u v (flat n s Distances u v) (flat n s Downstreams u v))
   unfolding routeSound get flat deep readAs

@@ -1,10 +1,10 @@
 -- The check as the code makes it is 01's sound. Assumes nothing.
-use mathlib.Core.Path.{_≡_, refl, sym, ap, _∙_}
+use mathlib.Core.Path.{_≡_, refl, sym, ap}
 use mathlib.Core.List.{List, []}
 use Prim.Native.Nat.{ℕ, _≤_, _<_}
 use native.Mathlib.Omega.{arith}
 use lib.ListN.{length}
-use Rattle.hop_rule.specs.declared.Table.the-variants.{Links, Distances, Downstreams, Views, Lengths, Destinations, Values}
+use Rattle.hop_rule.specs.declared.Table.the-variants.{Lengths, Destinations, Values}
 use Rattle.hop_rule.specs.Words.{listed, every}
 use Rattle.hop_rule.specs.State.{Entry}
 use Rattle.hop_rule.specs.Stored.{flat, deep, readAs}
@@ -34,26 +34,22 @@ module _ (n : ℕ) (s : List ℕ) where
   judged-sound j = record {
     state = record {
       bits = λ u w lu lw. j .paired u w lu lw .bit;
-      symmetric = λ u w lu lw. j .paired u w lu lw .symmetric;
       diagonal = λ u lu. j .paired u u lu lu .diagonal refl;
       distances = λ u v lu lv. current u v lu lv .distance;
       downstreams = λ u v lu lv. current u v lu lv .downstream;
       views = j .views;
       down-views = λ u w v lu lw lv f. j .paired u w lu lw .down-views f v lv;
-      down-queues = λ u w lu lw f. listed-none _ (entry w u) (j .paired u w lu lw .down-queue (λ q. f (turned w u lw lu q)));
+      down-queues = λ u w lu lw f. listed-none _ (entry w u) (j .paired u w lu lw .down-queue f);
       lengths = λ u w lu lw. omega (arith, length-listed (flat n s Lengths w u) (entry w u), j .sent w u lw lu .most);
-      differ = λ u w lu lw q. at-differ _ (entry w u) (j .paired u w lu lw .queue (turned u w lu lw q) .differ);
-      below = λ u w lu lw q. listed-each _ _ (entry w u) (j .paired u w lu lw .queue (turned u w lu lw q) .below);
-      values = λ u w lu lw q. listed-each _ _ (entry w u) (j .paired u w lu lw .queue (turned u w lu lw q) .values);
-      heard = λ u w v lu lw lv q f. j .paired u w lu lw .queue (turned u w lu lw q) .heard v lv (λ p l e. f (at-waits v _ (entry w u) p l e));
+      differ = λ u w lu lw q. at-differ _ (entry w u) (j .paired u w lu lw .queue q .differ);
+      below = λ u w lu lw q. listed-each _ _ (entry w u) (j .paired u w lu lw .queue q .below);
+      values = λ u w lu lw q. listed-each _ _ (entry w u) (j .paired u w lu lw .queue q .values);
+      heard = λ u w v lu lw lv q f. j .paired u w lu lw .queue q .heard v lv (λ p l e. f (at-waits v _ (entry w u) p l e));
     };
     past-destinations = λ w u p lw lu lp k. j .sent w u lw lu .past p lp k .0;
     past-values = λ w u p lw lu lp k. j .sent w u lw lu .past p lp k .1;
   }
     where
-      turned : (u w : ℕ) → u < n → w < n → flat n s Links w u ≡ 1 → flat n s Links u w ≡ 1
-      turned u w lu lw q = j .paired u w lu lw .symmetric ∙ q
-
       current : (u v : ℕ) → u < n → v < n → Current (readAs n s) u v
       current u v lu lv = given-current (readAs n s) u v (λ w lw q. j .paired u w lu lw .allows q v lv) (j .given u v lu lv)
 
@@ -63,18 +59,17 @@ module _ (n : ℕ) (s : List ℕ) where
     views = o .state .views;
     paired = λ u w lu lw. record {
       bit = o .state .bits u w lu lw;
-      symmetric = o .state .symmetric u w lu lw;
       diagonal = λ e. rw (← e) (o .state .diagonal u lu);
       queue = λ q. record {
         most = most u w lu lw;
-        below = each-at _ _ (entry w u) (o .state .below u w lu lw (turned w u lw lu q));
-        values = each-at _ _ (entry w u) (o .state .values u w lu lw (turned w u lw lu q));
-        differ = differ-at _ (entry w u) (o .state .differ u w lu lw (turned w u lw lu q));
-        heard = λ v lv f. o .state .heard u w v lu lw lv (turned w u lw lu q) (λ m. let (p, l, e) = waits-at v _ (entry w u) m in f p l (sym e));
+        below = each-at _ _ (entry w u) (o .state .below u w lu lw q);
+        values = each-at _ _ (entry w u) (o .state .values u w lu lw q);
+        differ = differ-at _ (entry w u) (o .state .differ u w lu lw q);
+        heard = λ v lv f. o .state .heard u w v lu lw lv q (λ m. let (p, l, e) = waits-at v _ (entry w u) m in f p l (sym e));
       };
       allows = λ q v lv. current-allowed (readAs n s) u v (sound-current (o .state) u v lu lv) w lw q;
       down-views = λ f v lv. o .state .down-views u w v lu lw lv f;
-      down-queue = λ f. omega (arith, length-listed (flat n s Lengths w u) (entry w u), ap length (o .state .down-queues u w lu lw (λ q. f (turned u w lu lw q))));
+      down-queue = λ f. omega (arith, length-listed (flat n s Lengths w u) (entry w u), ap length (o .state .down-queues u w lu lw f));
     };
     given = λ u v lu lv. current-given (readAs n s) u v (sound-current (o .state) u v lu lv);
     sent = λ w u lw lu. record {
@@ -83,9 +78,6 @@ module _ (n : ℕ) (s : List ℕ) where
     };
   }
     where
-      turned : (u w : ℕ) → u < n → w < n → flat n s Links w u ≡ 1 → flat n s Links u w ≡ 1
-      turned u w lu lw q = o .state .symmetric u w lu lw ∙ q
-
       most : (u w : ℕ) → u < n → w < n → flat n s Lengths w u ≤ n
       most u w lu lw = omega (arith, length-listed (flat n s Lengths w u) (entry w u), o .state .lengths u w lu lw)
 

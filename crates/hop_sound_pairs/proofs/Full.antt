@@ -8,7 +8,7 @@ use native.Mathlib.Omega.{arith}
 use Rattle.hop_rule.specs.declared.Table.the-variants.{Distances, Destinations, Values}
 use Rattle.hop_rule.specs.Stored.{start, size}
 use Rattle.hop_rows.specs.Rows.{row, allBelow, same}
-use Rattle.hop_seen.specs.Seen.{differing, allValued, full}
+use Rattle.hop_seen.specs.Seen.{differing, full}
 use Rattle.hop_sound_rows.specs.SoundRows.{counting}
 use Rattle.hop_sound_rows.proofs.FullRows.{full-told, counting-below, counting-differs, counting-valued}
 use Rattle.hop_sound_pairs.specs.Pairs.{toldSound, busySound}

@@ -10,15 +10,15 @@ use Rattle.hop_rows.specs.Rows.{row, allAre, allBelow, same}
 use Rattle.hop_seen.specs.Seen.{differing}
 use Rattle.hop_sound_rows.specs.SoundRows.{allAllow, allTold}
 
--- The link byte of u and w is 0 or 1, the same at both ends, and 0 on the diagonal.
+-- The byte of u's end of the link to w is 0 or 1, and 0 on the diagonal.
 unfoldable pub linkSound : ℕ → List ℕ → ℕ → ℕ → Bool
-linkSound n s u w = leb (get2 n Links u w s) 1 && (eqb (get2 n Links u w s) (get2 n Links w u s) && (not (eqb u w) || eqb (get2 n Links u w s) 0))
+linkSound n s u w = leb (get2 n Links u w s) 1 && (not (eqb u w) || eqb (get2 n Links u w s) 0)
 
--- A down link: u's views from w are n, and the queue from w to u is empty.
+-- u's end is down: its views from w are n, and the queue from w to u is empty.
 unfoldable pub downSound : ℕ → List ℕ → ℕ → ℕ → Bool
 downSound n s u w = eqb (get2 n Lengths w u s) 0 && allAre s (row n Views (u * n + w)) n n
 
--- An up link: where nothing waits, u's views from w are w's distances,
+-- Both ends are up: where nothing waits, u's views from w are w's distances,
 unfoldable pub idleSound : ℕ → List ℕ → ℕ → ℕ → Bool
 idleSound n s u w = same s (row n Views (u * n + w)) (row n Distances w) n
 
@@ -37,9 +37,13 @@ queueSound n s u w =
     let m = get2 n Lengths w u s in
     if eqb m 0 then idleSound n s u w else leb m n && busySound n s u w m
 
--- On an up link u's views from w allow u's routes.
+-- u's end is up: nothing waits where w's end is down,
+unfoldable pub waitingSound : ℕ → List ℕ → ℕ → ℕ → Bool
+waitingSound n s u w = if eqb (get2 n Links w u s) 1 then queueSound n s u w else eqb (get2 n Lengths w u s) 0
+
+-- and u's views from w allow u's routes, whether or not w's end is up.
 unfoldable pub upSound : ℕ → List ℕ → ℕ → ℕ → Bool
-upSound n s u w = queueSound n s u w && allAllow s n w (row n Views (u * n + w)) (row n Distances u) (row n Downstreams u)
+upSound n s u w = waitingSound n s u w && allAllow s n w (row n Views (u * n + w)) (row n Distances u) (row n Downstreams u)
 
 unfoldable pub pairSound : ℕ → List ℕ → ℕ → ℕ → Bool
 pairSound n s u w = linkSound n s u w && (if eqb (get2 n Links u w s) 1 then upSound n s u w else downSound n s u w)

@@ -1,4 +1,4 @@
-// What is judged of two nodes u and w: their link, u's views from w, and the queue from w to u.
+// What is judged of two nodes u and w: u's end of their link, u's views from w, and the queue from w to u. The other end and the other queue are judged of w and u.
 
 use hop_rule::Table;
 ghost use mathlib.Core.Path.{_≡_};
@@ -11,7 +11,7 @@ ghost use Rattle.hop_rows.specs.Rows.{row, allBelow};
 ghost use Rattle.hop_sound_rows.specs.SoundRows.{rising};
 ghost use Rattle.hop_sound_pairs.specs.Pairs as check;
 
-// The link byte is 0 or 1, the same at both ends, and 0 on the diagonal.
+// The byte of u's end is 0 or 1, and 0 on the diagonal.
 fn link_sound(s: &[u8], n: usize, u: usize, w: usize) -> bool
     requires { ⌜ Room n (now s) × (u < n) × (w < n) ⌝ }
     ensures { λ r. ⌜ r ≡ check.linkSound n (now (s .entry)) u w ⌝ }
@@ -20,16 +20,13 @@ fn link_sound(s: &[u8], n: usize, u: usize, w: usize) -> bool
     if 1 < l {
         return false;
     }
-    if l != hop_cells::get2(s, n, Table::Links, w, u) {
-        return false;
-    }
     if u != w {
         return true;
     }
     l == 0
 }
 
-// A down link: u's views from w are n, and the queue is empty.
+// u's end is down: its views from w are n, and the queue is empty.
 fn down_sound(s: &[u8], n: usize, u: usize, w: usize) -> bool
     requires { ⌜ Room n (now s) × (u < n) × (w < n) ⌝ }
     ensures { λ r. ⌜ r ≡ check.downSound n (now (s .entry)) u w ⌝ }
@@ -40,7 +37,7 @@ fn down_sound(s: &[u8], n: usize, u: usize, w: usize) -> bool
     hop_rows::all_are(s, hop_rows::row3(n, Table::Views, u, w), n, n as u8)
 }
 
-// An up link where nothing waits: u's views from w are w's distances.
+// Both ends are up and nothing waits: u's views from w are w's distances.
 fn idle_sound(s: &[u8], n: usize, u: usize, w: usize) -> bool
     requires { ⌜ Room n (now s) × (u < n) × (w < n) ⌝ }
     ensures { λ r. ⌜ r ≡ check.idleSound n (now (s .entry)) u w ⌝ }
@@ -53,7 +50,7 @@ fn idle_sound(s: &[u8], n: usize, u: usize, w: usize) -> bool
     )
 }
 
-// An up link where m entries wait: once they are delivered, u's views from w are w's distances.
+// Both ends are up and m entries wait: once they are delivered, u's views from w are w's distances.
 fn told_sound(s: &[u8], n: usize, u: usize, w: usize, m: usize) -> bool
     requires { ⌜ Room n (now s) × (u < n) × (w < n) × (m ≤ n) × (allBelow (now s) (row n Destinations (w * n + u)) m n ≡ true) ⌝ }
     ensures { λ r. ⌜ r ≡ check.toldSound n (now (s .entry)) u w m ⌝ }
@@ -159,12 +156,23 @@ fn queue_sound(s: &[u8], n: usize, u: usize, w: usize) -> bool
     busy_sound(s, n, u, w, m)
 }
 
-// An up link: what waits, and that u's views from w allow u's routes.
+// What waits for an end that is up: nothing, where w's end is down.
+fn waiting_sound(s: &[u8], n: usize, u: usize, w: usize) -> bool
+    requires { ⌜ Room n (now s) × (u < n) × (w < n) ⌝ }
+    ensures { λ r. ⌜ r ≡ check.waitingSound n (now (s .entry)) u w ⌝ }
+{
+    if hop_cells::get2(s, n, Table::Links, w, u) == 1 {
+        return queue_sound(s, n, u, w);
+    }
+    hop_cells::get2(s, n, Table::Lengths, w, u) == 0
+}
+
+// u's end is up: what waits, and that u's views from w allow u's routes, those of a lone end too.
 fn up_sound(s: &[u8], n: usize, u: usize, w: usize) -> bool
     requires { ⌜ Room n (now s) × (u < n) × (w < n) ⌝ }
     ensures { λ r. ⌜ r ≡ check.upSound n (now (s .entry)) u w ⌝ }
 {
-    if !queue_sound(s, n, u, w) {
+    if !waiting_sound(s, n, u, w) {
         return false;
     }
     let views = hop_rows::row3(n, Table::Views, u, w);

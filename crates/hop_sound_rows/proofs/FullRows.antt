@@ -1,5 +1,5 @@
 -- A full queue: n destinations below n that differ leave none out, so no view is left to judge; and where they count up, value v is the one for v. Assumes nothing.
-use mathlib.Core.Path.{_≡_, refl, ap, _∙_}
+use mathlib.Core.Path.{_≡_, refl, ap}
 use mathlib.Core.Bool.{true}
 use mathlib.Core.List.{List}
 use Prim.Native.Nat.{ℕ, _<_}

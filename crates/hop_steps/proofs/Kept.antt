@@ -1,7 +1,7 @@
 -- What recompute finds depends on links and views alone, and recompute writes routes and queues alone: so what is found for one destination stays while others are recomputed. Assumes nothing.
 use mathlib.Core.Path.{_≡_, refl, sym, ap, _∙_}
 use mathlib.Core.Logic.{_≢_}
-use mathlib.Core.Bool.{Bool, true, false, cond}
+use mathlib.Core.Bool.{Bool, true, false, cond, _&&_}
 use mathlib.Core.List.{List}
 use Prim.Native.Nat.{ℕ, _+_, _*_, _<_, _≤_}
 use native.Mathlib.Omega.{arith}
@@ -50,7 +50,7 @@ module _ (n : ℕ) (t : Table) (other : (t′ : Table) → rank t′ ≢ 0 → r
 
   tell-kept : (u v d : ℕ) (s : List ℕ) → u < n → Kept s (tell n u v d s)
   unfolding tell tellOne
-  tell-kept u v d s lu = loop-keeps (Kept s) n _ s (λ i l. refl) (λ w x lw h. either (up n u w x) s (send n u w v d x) x (λ e i l. send-kept u w v d x lu lw i l ∙ h i l) (λ e. h))
+  tell-kept u v d s lu = loop-keeps (Kept s) n _ s (λ i l. refl) (λ w x lw h. either (up n u w x && up n w u x) s (send n u w v d x) x (λ e i l. send-kept u w v d x lu lw i l ∙ h i l) (λ e. h))
 
   renew-kept : (u v : ℕ) (b : Best) (s : List ℕ) → u < n → v < n → Kept s (renew n u v b s)
   unfolding renew

@@ -1,4 +1,4 @@
--- What the code does to the bytes at each event, in the order of hop_rule's Rule. Every definition is total, as those of one queue are; on sound bytes each is the rule's.
+-- What the code does to the bytes at each event, in the order of hop_rule's Rule and Notice. Every definition is total, as those of one queue are; on sound bytes each is the rule's.
 -- Used by the code's own definitions; a buyer needs none of it.
 use mathlib.Core.Bool.{Bool, _&&_}
 use mathlib.Core.List.{List}
@@ -31,9 +31,9 @@ best n u v s = loop n (nearer n u v s) (record { distance = n; downstream = 255 
 unfoldable pub store : ℕ → ℕ → ℕ → Best → List ℕ → List ℕ
 store n u v b s = put2 n Downstreams u v (b .downstream) (put2 n Distances u v (b .distance) s)
 
--- The entry (v, d) is sent from u to w, if that link is up; and on each up link of u.
+-- The entry (v, d) is sent from u to w, if that link is up at both ends; and to each neighbour of u.
 unfoldable pub tellOne : ℕ → ℕ → ℕ → ℕ → ℕ → List ℕ → List ℕ
-tellOne n u v d w s = if up n u w s then send n u w v d s else s
+tellOne n u v d w s = if up n u w s && up n w u s then send n u w v d s else s
 
 unfoldable pub tell : ℕ → ℕ → ℕ → ℕ → List ℕ → List ℕ
 tell n u v d s = loop n (tellOne n u v d) s
@@ -101,17 +101,25 @@ deliver n w u s = drain n w u 1 s
 unfoldable pub linkUp : ℕ → ℕ → ℕ → List ℕ → List ℕ
 linkUp n a b s = offerAll n b a (offerAll n a b (put2 n Links b a 1 (put2 n Links a b 1 s)))
 
--- u's end of the link to w is down, its views from w are n, and its queue to w is empty.
-unfoldable pub cutEnd : ℕ → ℕ → ℕ → List ℕ → List ℕ
-cutEnd n u w s = empty n u w (fill n Views u w n (put2 n Links u w 0 s))
-
 -- u recomputes every destination, in ascending order.
 unfoldable pub recomputeAll : ℕ → ℕ → List ℕ → List ℕ
 recomputeAll n u s = loop n (recompute n u) s
 
--- 'Link down' a, b: both ends are cut, and then each recomputes.
+-- 'Notice' by a, its first half: a's end of the link to b is down, a's views from b are n, and both queues are empty.
+unfoldable pub lose : ℕ → ℕ → ℕ → List ℕ → List ℕ
+lose n a b s = empty n b a (empty n a b (fill n Views a b n (put2 n Links a b 0 s)))
+
+-- And a recomputes every destination.
+unfoldable pub notice : ℕ → ℕ → ℕ → List ℕ → List ℕ
+notice n a b s = recomputeAll n a (lose n a b s)
+
+-- The notice of a, if it is missing.
+unfoldable pub missing : ℕ → ℕ → ℕ → List ℕ → List ℕ
+missing n a b s = if up n a b s then notice n a b s else s
+
+-- 'Link down' a, b: whatever notices are missing, the lower-numbered end first.
 unfoldable pub linkDown : ℕ → ℕ → ℕ → List ℕ → List ℕ
-linkDown n a b s = recomputeAll n b (recomputeAll n a (cutEnd n b a (cutEnd n a b s)))
+linkDown n a b s = if ltb a b then missing n b a (missing n a b s) else missing n a b (missing n b a s)
 
 -- Every byte of a block becomes x.
 unfoldable pub fillBlock : ℕ → Table → ℕ → List ℕ → List ℕ

@@ -1,4 +1,4 @@
-// The events on the bytes of a stored state: recompute, deliver, link up, link down; and a fresh state.
+// The events on the bytes of a stored state: recompute, deliver, link up, one end's notice that a link is lost, link down by notices; and a fresh state.
 
 use hop_cells::cube;
 use hop_cells::fill;
@@ -73,17 +73,17 @@ fn store(s: &mut [u8], n: usize, u: usize, v: usize, b: Best)
     put2(s, n, Table::Downstreams, u, v, b.downstream);
 }
 
-// The entry (v, d) is sent from u to w, if that link is up.
+// The entry (v, d) is sent from u to w, if that link is up at both ends: towards an end that is down it is dropped.
 fn tell_one(s: &mut [u8], n: usize, u: usize, v: usize, d: u8, w: usize)
     requires { ⌜ Room n (now s) × (u < n) × (v < n) × (w < n) ⌝ }
     ensures { λ r. ⌜ now (s .exit) ≡ step.tellOne n u v d w (now (s .entry)) ⌝ }
 {
-    if get2(s, n, Table::Links, u, w) == 1 {
+    if get2(s, n, Table::Links, u, w) == 1 && get2(s, n, Table::Links, w, u) == 1 {
         send(s, n, u, w, v, d);
     }
 }
 
-// And on each up link of u.
+// And to each neighbour of u.
 fn tell(s: &mut [u8], n: usize, u: usize, v: usize, d: u8)
     requires { ⌜ Room n (now s) × (u < n) × (v < n) ⌝ }
     ensures { λ r. ⌜ now (s .exit) ≡ step.tell n u v d (now (s .entry)) ⌝ }
@@ -221,16 +221,6 @@ pub fn link_up(s: &mut [u8], n: usize, a: usize, b: usize)
     offer_all(s, n, b, a);
 }
 
-// u's end of the link to w is down, its views from w are n, and its queue to w is empty.
-fn cut_end(s: &mut [u8], n: usize, u: usize, w: usize)
-    requires { ⌜ Room n (now s) × (u < n) × (w < n) ⌝ }
-    ensures { λ r. ⌜ now (s .exit) ≡ step.cutEnd n u w (now (s .entry)) ⌝ }
-{
-    put2(s, n, Table::Links, u, w, 0);
-    fill(s, n, Table::Views, u, w, n as u8);
-    empty(s, n, u, w);
-}
-
 // a where d is less than c, and otherwise b.
 fn choose(d: u8, c: u8, a: u8, b: u8) -> u8
     ensures { λ r. ⌜ r ≡ step.choose d c a b ⌝ }
@@ -250,7 +240,7 @@ fn nearer_at(s: &[u8], n: usize, u: usize, w: usize, v: usize, views: &mut [u8],
     from[v] = choose(d, c, w as u8, x);
 }
 
-// And for all destinations, if the link is up: along a row of views, in a loop that compiles to vector instructions.
+// And for all destinations, if u's end of the link is up: along a row of views, in a loop that compiles to vector instructions.
 fn nearer_row(s: &[u8], n: usize, u: usize, w: usize, views: &mut [u8], from: &mut [u8])
     requires { ⌜ Room n (now s) × (u < n) × (w < n) × (n ≤ length (now views)) × (n ≤ length (now from)) ⌝ }
     ensures { λ r. ⌜ ((v : ℕ) → v < n → step.Looked n u w (now (s .entry)) (now (views .entry)) (now (from .entry)) (now (views .exit)) (now (from .exit)) v) ⌝ }
@@ -290,15 +280,48 @@ fn recompute_all(s: &mut [u8], n: usize, u: usize)
     }
 }
 
-// Both ends are cut, and then each recomputes.
+// a notices that its link to b is lost, the first half: a's end is down, a's views from b are n, and both queues are empty. b's end and b's views stay.
+fn lose(s: &mut [u8], n: usize, a: usize, b: usize)
+    requires { ⌜ Room n (now s) × (a < n) × (b < n) ⌝ }
+    ensures { λ r. ⌜ now (s .exit) ≡ step.lose n a b (now (s .entry)) ⌝ }
+{
+    put2(s, n, Table::Links, a, b, 0);
+    fill(s, n, Table::Views, a, b, n as u8);
+    empty(s, n, a, b);
+    empty(s, n, b, a);
+}
+
+// And a recomputes every destination.
+pub fn notice(s: &mut [u8], n: usize, a: usize, b: usize)
+    requires { ⌜ Room n (now s) × (a < n) × (b < n) ⌝ }
+    ensures { λ r. ⌜ now (s .exit) ≡ step.notice n a b (now (s .entry)) ⌝ }
+{
+    lose(s, n, a, b);
+    recompute_all(s, n, a);
+}
+
+// The notice of a, if it is missing.
+fn missing(s: &mut [u8], n: usize, a: usize, b: usize)
+    requires { ⌜ Room n (now s) × (a < n) × (b < n) ⌝ }
+    ensures { λ r. ⌜ now (s .exit) ≡ step.missing n a b (now (s .entry)) ⌝ }
+{
+    if get2(s, n, Table::Links, a, b) == 1 {
+        notice(s, n, a, b);
+    }
+}
+
+// Whatever notices are missing, the lower-numbered end first.
 pub fn link_down(s: &mut [u8], n: usize, a: usize, b: usize)
     requires { ⌜ Room n (now s) × (a < n) × (b < n) ⌝ }
     ensures { λ r. ⌜ now (s .exit) ≡ step.linkDown n a b (now (s .entry)) ⌝ }
 {
-    cut_end(s, n, a, b);
-    cut_end(s, n, b, a);
-    recompute_all(s, n, a);
-    recompute_all(s, n, b);
+    if a < b {
+        missing(s, n, a, b);
+        missing(s, n, b, a);
+    } else {
+        missing(s, n, b, a);
+        missing(s, n, a, b);
+    }
 }
 
 // Every one of the k bytes of a block becomes x: long runs are written fastest.

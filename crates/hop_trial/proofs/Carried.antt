@@ -1,7 +1,7 @@
 -- A trial on bytes that begin with a copy of a state is the rule's: the copy carries that state, each step of the trial carries it on, and at the end the copy is there again. Assumes nothing.
 use mathlib.Core.Path.{_≡_, refl, sym, ap, ap₂, subst, _∙_}
 use mathlib.Core.Bool.{Bool, true, false, cond}
-use mathlib.Core.List.{List, [], _++_}
+use mathlib.Core.List.{List, []}
 use Prim.Native.Nat.{ℕ, _+_, _*_, _-_, _≤_, _<_}
 use native.Mathlib.Nat.{le-trans}
 use native.Mathlib.Decide.{decLt}
@@ -9,33 +9,32 @@ use native.Mathlib.Omega.{arith}
 use lib.Dec.{eqb, lit≤}
 use lib.IntN.{ℤ}
 use lib.ListN.{length, getD, take, drop, length-append, length-drop, List·getD-append}
-use lib.Seq.{length-take-le, getD-take, getD-append-add, getD-drop, drop-append-le, drop-append-add, drop-drop}
+use lib.Seq.{length-take-le, getD-take, getD-append-add, getD-drop, drop-append-add, drop-drop}
 use mir.Syntax.{w32}
 use mir.Val.{toZ, ofZ}
 use Rattle.hop_rule.specs.declared.Table.{Table}
 use Rattle.hop_rule.specs.declared.Table.the-variants.{Links, Distances, Downstreams, Views, Lengths, Destinations, Values}
 use Rattle.hop_rule.specs.State.{State}
 use Rattle.hop_rule.specs.Rule as rule
+use Rattle.hop_rule.specs.Notice as notice
 use Rattle.hop_rule.specs.Stored.{size, start, nodes, flat, readAs, read, destinationAt, valueAt}
 use Rattle.hop_rule.specs.Records.{written}
 use Rattle.hop_rule.specs.Worth as worth
-use Rattle.hop_laws.specs.Holds.{Flat, Deep, flatOf, deepOf}
-use Rattle.hop_rest.specs.Rest.{AtRest}
+use Rattle.hop_laws.specs.Holds.{Flat, flatOf, deepOf}
 use Rattle.hop_rest.proofs.Settling.{total-rest}
 use Rattle.hop_rest.proofs.Changes.{Agree, lost-same, change-same}
-use Rattle.hop_rest.proofs.Worth.{turned-sound, trial-settled, line-fits}
+use Rattle.hop_rest.proofs.Worth.{ascends, turned-sound, trial-rests, line-fits}
 use Rattle.hop_cells.specs.Cells.{Room, cells, get}
 use Rattle.hop_cells.proofs.Places.{rank, inside, ends-inside, ends-before}
 use Rattle.hop_steps.specs.Steps.{linkUp, linkDown}
 use Rattle.hop_changes.proofs.Sums.{signed-kept}
 use Rattle.hop_runs.specs.Runs as runs
 use Rattle.hop_runs.specs.declared.Ran.{Ran}
-use Rattle.hop_bridge.specs.Carries.{Filled, Carries, CarriesSound}
+use Rattle.hop_bridge.specs.Carries.{Carries, CarriesSound}
 use Rattle.hop_bridge.proofs.Filled.{by-flat, by-deep, flat-in, deep-in}
 use Rattle.hop_bridge.proofs.Links.{linkUp-carries, linkDown-carries}
 use Rattle.hop_bridge.proofs.Runs.{passes-sound, made-is, delivered-is}
 use Rattle.hop_bridge.proofs.Door.{fine-sound, carried-stored}
-use Rattle.hop_trial.specs.declared.Found.{Found}
 use Rattle.hop_trial.specs.Trial.{Copied, turned, found}
 use Rattle.hop_trial.proofs.Copies.{overlaid, overlaid-written}
 
@@ -71,17 +70,20 @@ copied-carries {n} {s} {x} h = same-bytes (carried h) x (h .room) (λ i l. sym (
 
 -- ---- the trial
 
-module _ {n : ℕ} {r x : List ℕ} {t : State} (h : CarriesSound n r x t) (a b : ℕ) (ascends : a < b) (inside-n : b < n) where
+module _ {n : ℕ} {r x : List ℕ} {t : State} (h : CarriesSound n r x t) (a b : ℕ) (so : worth.tried t a b ≡ true) (inside-n : b < n) where
+  low : a < n
+  low = omega (arith, ascends t a b so)
+
   turned-carries : CarriesSound n r (turned n a b x) (worth.turned t a b)
   unfolding turned worth.turned
   turned-carries = record {
-    sound = turned-sound t a b (h .sound) ascends (omega (arith, h .carries .orderly .count));
-    carries = rw (h .carries .filled .flats Links tt a b (omega arith) inside-n) (go (eqb (t .link a b) 1));
+    sound = turned-sound t a b so (h .sound) (omega (arith, h .carries .orderly .count));
+    carries = rw (h .carries .filled .flats Links tt a b low inside-n) (go (eqb (t .link a b) 1));
   }
     where
-      go : (u : Bool) → Carries n r (cond u (linkDown n a b x) (linkUp n a b x)) (cond u (rule.linkDown t a b) (rule.linkUp t a b))
-      go true = linkDown-carries (h .carries) a b (omega arith) inside-n
-      go false = linkUp-carries (h .carries) a b (omega arith) inside-n
+      go : (u : Bool) → Carries n r (cond u (linkDown n a b x) (linkUp n a b x)) (cond u (notice.linkDown t a b) (rule.linkUp t a b))
+      go true = linkDown-carries (h .carries) a b low inside-n
+      go false = linkUp-carries (h .carries) a b low inside-n
 
   trial-carries : CarriesSound n r (runs.run n 255 (turned n a b x)) (worth.trial t a b)
   unfolding runs.run worth.trial worth.trialPasses
@@ -93,13 +95,13 @@ module _ {n : ℕ} {r x : List ℕ} {t : State} (h : CarriesSound n r x t) (a b 
 
 -- ---- what it tells, and the copy again
 
-module _ {n : ℕ} {s x : List ℕ} (h : Copied n s x) (a b : ℕ) (ascends : a < b) (inside-n : b < n) where
+module _ {n : ℕ} {s x : List ℕ} (h : Copied n s x) (a b : ℕ) (so : worth.tried (read s) a b ≡ true) (inside-n : b < n) where
   -- The bytes after the run.
   abbrev ended : List ℕ
   ended = runs.run n 255 (turned n a b x)
 
   ends : CarriesSound n (drop (size n) x) ended (worth.trial (read s) a b)
-  ends = trial-carries (copied-carries h) a b ascends inside-n
+  ends = trial-carries (copied-carries h) a b so inside-n
 
   before : Agree n (flat n s Distances) (read s .distance)
   unfolding readAs
@@ -115,7 +117,7 @@ module _ {n : ℕ} {s x : List ℕ} (h : Copied n s x) (a b : ℕ) (ascends : a 
   -- The change, which goes through a signed number of 32 bits, is not cut.
   whole : toZ w32 (ofZ w32 (line .change)) ≡ line .change
   unfolding readAs
-  whole = signed-kept (line .change) (line-fits (read s) (h .fine .sound .state) (h .fine .most) a b ascends (omega (arith, h .claim)) .change-most)
+  whole = signed-kept (line .change) (line-fits (read s) (h .fine .sound .state) (h .fine .most) a b so (omega (arith, h .claim)) .change-most)
 
   tells : {ran : Ran} {lost gained : ℕ} {change : ℤ}
       → ran ≡ runs.ran n 255 (turned n a b x)
@@ -125,7 +127,7 @@ module _ {n : ℕ} {s x : List ℕ} (h : Copied n s x) (a b : ℕ) (ascends : a 
       → record { passes = ran .passes; deliveries = ran .deliveries; lost = lost; gained = gained; change = toZ w32 (ofZ w32 change) } ≡ found line
   unfolding found worth.line readAs
   tells {change = change} e l g c =
-      let did = e ∙ trial-ran (copied-carries h) a b ascends inside-n in
+      let did = e ∙ trial-ran (copied-carries h) a b so inside-n in
       let few = ap (λ m. worth.lost m (read s .distance) (worth.trial (read s) a b .distance)) (h .claim) in
       let more = ap (λ m. worth.lost m (worth.trial (read s) a b .distance) (read s .distance)) (h .claim) in
       let sum : change ≡ line .change = c ∙ change-same n _ _ _ _ before after ∙ ap (λ m. worth.change m (read s .distance) (worth.trial (read s) a b .distance)) (h .claim) in
@@ -139,7 +141,7 @@ module _ {n : ℕ} {s x : List ℕ} (h : Copied n s x) (a b : ℕ) (ascends : a 
   none-after : (w u : ℕ) → w < n → u < n → worth.trial (read s) a b .queue w u ≡ []
   unfolding readAs
   none-after w u lw lu =
-      trial-settled (read s) a b (h .fine .sound .state) (le-trans (h .fine .most) (lit≤ tt)) ascends (omega (arith, h .claim)) .empty
+      total-rest (worth.trial (read s) a b) (trial-rests (read s) a b (h .fine .sound .state) so (omega (arith, h .claim)) (le-trans (h .fine .most) (lit≤ tt)))
       w u (omega (arith, h .claim, same)) (omega (arith, h .claim, same))
     where
       same : worth.trial (read s) a b .n ≡ n

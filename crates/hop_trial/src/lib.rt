@@ -9,11 +9,12 @@ use hop_runs::run;
 use hop_steps::link_down;
 use hop_steps::link_up;
 ghost use mathlib.Core.Path.{_≡_};
+ghost use mathlib.Core.Bool.{true};
 ghost use Prim.Native.Nat.{_<_, _≤_};
 ghost use lib.ListN.{length, take};
 ghost use Rattle.hop_rule.specs.Stored.{read};
 ghost use Rattle.hop_rule.specs.Records.{written};
-ghost use Rattle.hop_rule.specs.Worth.{line};
+ghost use Rattle.hop_rule.specs.Worth.{line, tried};
 ghost use Rattle.hop_cells.specs.Cells.{Room};
 ghost use Rattle.hop_trial.specs.Trial.{turned, Copied, found};
 
@@ -36,7 +37,7 @@ pub fn copy(from: &[u8], to: &mut [u8], k: usize)
     }
 }
 
-// An up link is taken down, a down link is put up.
+// An up link is taken down, a down link is put up. Both ends of a pair that is tried are as a's own is.
 fn turn(x: &mut [u8], n: usize, a: usize, b: usize)
     requires { ⌜ Room n (now x) × (a < n) × (b < n) ⌝ }
     ensures { λ r. ⌜ now (x .exit) ≡ turned n a b (now (x .entry)) ⌝ }
@@ -48,9 +49,9 @@ fn turn(x: &mut [u8], n: usize, a: usize, b: usize)
     }
 }
 
-// The trial of the pair a, b. It ends at rest, so what stands behind the views is 0 as it was, and what stands before is copied anew.
+// The trial of the pair a, b, which is one that is tried. It ends at rest, so what stands behind the views is 0 as it was, and what stands before is copied anew.
 pub fn trial(s: &[u8], x: &mut [u8], n: usize, a: usize, b: usize) -> Found
-    requires { ⌜ Copied n (now s) (now x) × (a < b) × (b < n) ⌝ }
+    requires { ⌜ Copied n (now s) (now x) × (tried (read (now s)) a b ≡ true) × (b < n) ⌝ }
     ensures { λ r. ⌜ (r ≡ found (line (read (now (s .entry))) a b)) × (now (x .exit) ≡ now (x .entry)) ⌝ }
 {
     turn(x, n, a, b);

@@ -9,7 +9,7 @@ use lib.Seq.{sets}
 use Rattle.hop_rule.specs.Route.{route}
 use Rattle.hop_rule.specs.Stored.{nodes, readAs, read}
 use Rattle.hop_rule.specs.Records.{written}
-use Rattle.hop_rule.specs.Calls.{Refusal, judge, noNode, notAtRest, short}
+use Rattle.hop_rule.specs.Calls.{Refusal, judge, noNode, notAtRest, someOneEnded, short}
 use Rattle.hop_rule.specs.Why.{along, joinedTo, Reason, path, set, reason, kind, shown, beforeList, whyRefusals, whyDone, why}
 use Rattle.hop_laws.proofs.Tests.{tells-lt, tells-false, choose-so, choose-else}
 use Rattle.hop_laws.proofs.Lists.{sets-written}
@@ -52,15 +52,15 @@ set-handed l list room count put = rw (count, put, sets-written l list room) (sy
 
 module _ (u v : ℕ) (s : List ℕ) {j : Judged} (e : j ≡ verdict (judge (beforeList u v s)) (nodes s)) {n : ℕ} (g : j ≡ Go n) where
   pub ready : Room n s × (u < n) × (v < n)
-  ready = ends-ready s u v (notAtRest s ∷ []) e g
+  ready = ends-ready s u v (notAtRest s ∷ someOneEnded s ∷ []) e g
 
-  -- The state is sound and at rest, so that a path does not leave it.
+  -- The state is sound and at rest and no link has just one end up, so that a path does not leave it.
   pub path-inside : {d : ℕ} → d ≡ route (readAs n s) u v .distance → d < n → Stays (readAs n s) u v d
   unfolding readAs
   path-inside {d} at l =
       let k = known u v s [] (gone _ _ e g .0) in
       let claim = claim-known s _ e g in
-      rw (at, claim) (rest-inside (read s) (k .fine .sound .state) (k .rest) u v (k .node) (k .destination) (rw (at, claim) at l))
+      rw (at, claim) (rest-inside (read s) (k .fine .sound .state) (k .rest) (k .agree) u v (k .node) (k .destination) (rw (at, claim) at l))
 
 module _ (u v : ℕ) (s list : List ℕ) {j : Judged} (e : j ≡ verdict (judge (beforeList u v s)) (nodes s)) where
   abbrev last : List Refusal
@@ -77,7 +77,7 @@ module _ (u v : ℕ) (s list : List ℕ) {j : Judged} (e : j ≡ verdict (judge 
     -- All that is left to do is to hand over the reason:
     why-handed : handed (reason (readAs n s) u v) list ≡ why u v s list
     unfolding whyRefusals whyDone judge
-    why-handed = rw (claim-known s (noNode s u ∷ noNode s v ∷ notAtRest s ∷ []) e g) (go (decLt (length list) (length (shown (reason (read s) u v)))))
+    why-handed = rw (claim-known s (noNode s u ∷ noNode s v ∷ notAtRest s ∷ someOneEnded s ∷ []) e g) (go (decLt (length list) (length (shown (reason (read s) u v)))))
       where
         left : judge (whyRefusals u v s list) ≡ judge last
         left = judge-passed (beforeList u v s) last (omega arith) (gone _ _ e g .0)

@@ -1,4 +1,4 @@
--- The path of a stored state, one hop on; and at rest each node of it is below n. Assumes nothing.
+-- The path of a stored state, one hop on; and at rest, where no link has just one end up, each node of it is below n. Assumes nothing.
 use mathlib.Core.Path.{_≡_, refl}
 use mathlib.Core.Bool.{true, false}
 use mathlib.Core.List.{[], _∷_}
@@ -9,6 +9,7 @@ use borrow.Author.Tests.{lt-ltb, le-ltb}
 use Rattle.hop_rule.specs.State.{State}
 use Rattle.hop_rule.specs.Route.{route, routed}
 use Rattle.hop_rule.specs.Sound.{Sound}
+use Rattle.hop_rule.specs.Notice.{EndsAgree}
 use Rattle.hop_rule.specs.Why.{along}
 use Rattle.hop_rest.specs.Rest.{AtRest}
 use Rattle.hop_rest.proofs.Why.{along-route}
@@ -45,7 +46,7 @@ module _ (s : State) (u v : ℕ) where
   path-ends zero l = refl
   path-ends (suc h) l = absurd (omega arith)
 
--- Along the downstreams of a sound state at rest there are nodes only.
-pub rest-inside : (s : State) → Sound s → AtRest s → (u v : ℕ) → u < s .n → v < s .n → s .distance u v < s .n → Stays s u v (s .distance u v)
+-- Along the downstreams of such a state there are nodes only.
+pub rest-inside : (s : State) → Sound s → AtRest s → EndsAgree s → (u v : ℕ) → u < s .n → v < s .n → s .distance u v < s .n → Stays s u v (s .distance u v)
 unfolding Stays
-rest-inside s o rest u v lu lv l = along-route s o rest v lv (λ x d. Stays s x v d) lv (λ x d lx lw q e h. (lx, h)) _ u lu l refl
+rest-inside s o rest agree u v lu lv l = along-route s o rest agree v lv (λ x d. Stays s x v d) lv (λ x d lx lw q e h. (lx, h)) _ u lu l refl

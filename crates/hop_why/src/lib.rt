@@ -100,7 +100,7 @@ fn show_set(s: &[u8], list: &mut [u8], n: usize, u: usize) -> WhyAnswer
     WhyAnswer::Set(joined.count as u32)
 }
 
-// Why u reaches v in so many hops, or not at all: which reason it is, and how many bytes of it were written. Refuses 2, 1, 2, 3, 4, 12, 2.
+// Why u reaches v in so many hops, or not at all: which reason it is, and how many bytes of it were written. Refuses 2, 1, 2, 3, 4, 12, 13, 2.
 pub fn why(s: &[u8], u: usize, v: usize, list: &mut [u8]) -> WhyAnswer
     ensures { λ r. ⌜ Why u v (now (s .entry)) (now (list .entry)) r (now (list .exit)) ⌝ }
 {

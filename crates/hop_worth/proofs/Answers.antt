@@ -1,17 +1,17 @@
 -- The call's result fixes its answer, the trial buffer and the list; and a call that is done is not refused with 0. Assumes nothing.
-use mathlib.Core.Path.{_≡_, sym, ap, ap₂, _∙_}
+use mathlib.Core.Path.{sym, ap, ap₂, _∙_}
 use mathlib.Core.List.{List}
 use Prim.Native.Nat.{ℕ}
 use native.Mathlib.Omega.{arith}
 use lib.IntN.{ℤ}
 use lib.ListN.{length}
 use Rattle.hop_rule.specs.Fixed.{Fixed}
-use Rattle.hop_rule.specs.Worth.{Valued, worthDone, worth}
+use Rattle.hop_rule.specs.Worth.{Valued, worthDone}
 use Rattle.hop_laws.proofs.Worth.{worth-done, worth-number}
 use Rattle.hop_ask.specs.declared.Answer.{Answer}
 use Rattle.hop_ask.specs.declared.Answer.the-variants.{Refused}
 use Rattle.hop_ask.proofs.Answers.{told}
-use Rattle.hop_worth.specs.Answers.{valued, Worth}
+use Rattle.hop_worth.specs.Answers.{Worth}
 
 pub worth-fixed : (s trial : List ℕ) (list : List ℤ) → Fixed (λ (a : Answer) (left : List ℕ × List ℤ). Worth s trial list a (left .0) (left .1))
 worth-fixed s trial list a b l m p q =

@@ -2,7 +2,14 @@
 use mathlib.Core.List.{List, [], _∷_}
 use Prim.Native.Nat.{ℕ, _≤_, _<_}
 use lib.IntN.{ℤ, pos, natAbs}
+use Rattle.hop_rule.specs.Words.{if_then_else_}
+use Rattle.hop_rule.specs.State.{State}
+use Rattle.hop_rule.specs.Worth.{Line, line, tried}
 use Rattle.hop_trial.specs.declared.Found.{Found}
+
+-- The line of the pair a, b, if it is tried.
+abbrev pub lineOf : State → ℕ → ℕ → List Line
+lineOf s a b = if tried s a b then line s a b ∷ [] else []
 
 -- What a trial found fits signed numbers of 32 bits.
 pub record Small (f : Found) : Type 0 where

@@ -1,14 +1,16 @@
-// What each link is worth (02, R-1): the lines of all pairs, ascending, and the public call, which does not count on its caller.
+// What each link is worth (02, R-1): the lines of all pairs that are tried, ascending, and the public call, which does not count on its caller.
 
 use hop_ask::Answer;
+use hop_cells::get2;
 use hop_cells::size;
 use hop_judge::Judged;
 use hop_judge::judge_worth;
+use hop_rule::Table;
 use hop_trial::Found;
 use hop_trial::copy;
 use hop_trial::trial;
 ghost use mathlib.Core.Path.{_≡_};
-ghost use Prim.Native.Nat.{suc, _+_, _*_, _-_, _<_, _≤_};
+ghost use Prim.Native.Nat.{_+_, _*_, _<_, _≤_};
 ghost use lib.IntN.{pos};
 ghost use lib.ListN.{length, set};
 ghost use lib.Seq.{sets};
@@ -16,7 +18,7 @@ ghost use Rattle.hop_rule.specs.Stored.{read};
 ghost use Rattle.hop_rule.specs.Worth.{numbers, lines};
 ghost use Rattle.hop_laws.specs.Lines.{linesOf};
 ghost use Rattle.hop_trial.specs.Trial.{Copied};
-ghost use Rattle.hop_worth.specs.Writing.{Small, sevenOf};
+ghost use Rattle.hop_worth.specs.Writing.{lineOf, Small, sevenOf};
 ghost use Rattle.hop_worth.specs.Answers.{Worth};
 
 // A signed number is put at place i of the list, and one that is not below zero.
@@ -48,16 +50,35 @@ fn put_line(list: &mut [i32], at: usize, a: usize, b: usize, f: Found)
     put(list, at + 6, f.change);
 }
 
-// The lines of node a with the nodes above it, behind the k that stand; how many stand then.
+// The line of a and b, behind the i that stand; how many stand then. A pair whose two ends differ has none (02, R-5).
+fn line_of(
+    s: &[u8],
+    x: &mut [u8],
+    list: &mut [i32],
+    n: usize,
+    a: usize,
+    b: usize,
+    i: usize,
+) -> usize
+    requires { ⌜ Copied n (now s) (now x) × (a < b) × (b < n) × (i + length (lineOf (read (now s)) a b) ≤ 780) × (7 * (i + length (lineOf (read (now s)) a b)) ≤ length (now list)) ⌝ }
+    ensures { λ r. ⌜ (r ≡ i + length (lineOf (read (now (s .entry))) a b)) × (now (list .exit) ≡ sets (now (list .entry)) (7 * i) (numbers (lineOf (read (now (s .entry))) a b))) × (now (x .exit) ≡ now (x .entry)) ⌝ }
+{
+    if get2(s, n, Table::Links, a, b) != get2(s, n, Table::Links, b, a) {
+        return i;
+    }
+    let f = trial(s, x, n, a, b);
+    put_line(list, 7 * i, a, b, f);
+    i + 1
+}
+
+// The lines of node a with the nodes above it, behind the k that stand.
 fn lines_of(s: &[u8], x: &mut [u8], list: &mut [i32], n: usize, a: usize, k: usize) -> usize
-    requires { ⌜ Copied n (now s) (now x) × (a < n) × (k + (n - suc a) ≤ 780) × (7 * (k + (n - suc a)) ≤ length (now list)) ⌝ }
-    ensures { λ r. ⌜ (r ≡ k + (n - suc a)) × (now (list .exit) ≡ sets (now (list .entry)) (7 * k) (numbers (linesOf (read (now (s .entry))) a n))) × (now (x .exit) ≡ now (x .entry)) ⌝ }
+    requires { ⌜ Copied n (now s) (now x) × (a < n) × (k + length (linesOf (read (now s)) a n) ≤ 780) × (7 * (k + length (linesOf (read (now s)) a n)) ≤ length (now list)) ⌝ }
+    ensures { λ r. ⌜ (r ≡ k + length (linesOf (read (now (s .entry))) a n)) × (now (list .exit) ≡ sets (now (list .entry)) (7 * k) (numbers (linesOf (read (now (s .entry))) a n))) × (now (x .exit) ≡ now (x .entry)) ⌝ }
 {
     let mut i = k;
     for b in a + 1..n {
-        let f = trial(s, x, n, a, b);
-        put_line(list, 7 * i, a, b, f);
-        i += 1;
+        i = line_of(s, x, list, n, a, b, i);
     }
     i
 }

@@ -1,13 +1,12 @@
--- `judge_down` meets its contract: where the ends pass, the link's byte decides, and all but 1 is refused. Assumes nothing.
+-- `judge_down` meets its contract: where the ends pass, it is refused if neither is up. Assumes nothing.
 use mathlib.Core.Path.{ap, _∙_}
 use mathlib.Core.Bool.{not}
 use native.Mathlib.Omega.{arith}
-use lib.Dec.{eqb}
 use borrow.Author.Needs.{needs}
 use Rattle.hop_rule.specs.Calls.{refusals}
-use Rattle.hop_cells.proofs.Read.{link-read}
 use Rattle.hop_judge.proofs.Judging.{refused-already, judged-next}
-use Rattle.hop_judge.proofs.Known.{cell-ready}
+use Rattle.hop_judge.proofs.Known.{ends-ready}
+use Rattle.hop_judge.proofs.Read.{either-read}
 use Rattle.hop_judge.proofs.judge_down.Statement.{statement}
 use Rattle.hop_judge.proofs.judge_down.Tie as tie
 
@@ -17,8 +16,8 @@ judge-ends-requires c κs = search needs
 enum-known-n : tie.Need-enum-known-n
 enum-known-n c = search needs
 
-get2-requires : tie.Need-get2-requires
-get2-requires c κs = cell-ready _ _ _ _ (c .before .before .before .judge-ends .ensures) (c .before .n .given .1)
+either-up-requires : tie.Need-either-up-requires
+either-up-requires c κs = ends-ready _ _ _ _ (c .before .before .before .judge-ends .ensures) (c .before .n .given .1)
 
 unless-requires : tie.Need-unless-requires
 unless-requires c κs = search needs
@@ -30,7 +29,7 @@ returns : tie.Need-returns
 unfolding refusals
 returns c =
     let at-n = c .before .before .before in
-    judged-next _ _ (at-n .before .before .judge-ends .ensures) _ (omega arith) (at-n .n .given .1) (λ claim. ap (λ x. not (eqb x 1)) (c .before .get2 .ensures .0 ∙ link-read _ claim _ _)) (c .unless .ensures)
+    judged-next _ _ (at-n .before .before .judge-ends .ensures) _ (omega arith) (at-n .n .given .1) (λ claim. ap not (c .before .either-up .ensures ∙ either-read _ claim _ _)) (c .unless .ensures)
 
 returns-2 : tie.Need-returns-2
 unfolding refusals
@@ -42,7 +41,7 @@ judge-down-spec =
     (tie.spec
     judge-ends-requires
     enum-known-n
-    get2-requires
+    either-up-requires
     unless-requires
     enum-told
     returns

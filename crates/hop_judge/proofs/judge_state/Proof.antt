@@ -1,5 +1,5 @@
 -- `judge_state` meets its contract: a buffer that is not empty is judged as for making a state of as many nodes as it claims, and then by the check. Assumes nothing.
-use mathlib.Core.Path.{sym, ap, _∙_}
+use mathlib.Core.Path.{ap, _∙_}
 use mathlib.Core.Bool.{not}
 use native.Mathlib.Omega.{arith}
 use borrow.Author.Tests.{eq-eqb}

@@ -1,23 +1,22 @@
--- `judge_up` meets its contract: where the ends pass, the link's byte decides, and 1 is refused. Assumes nothing.
-use mathlib.Core.Path.{ap, _∙_}
+-- `judge_up` meets its contract: where not both ends are up, bytes that differ are refused. Assumes nothing.
+use mathlib.Core.Path.{_∙_}
 use native.Mathlib.Omega.{arith}
-use lib.Dec.{eqb}
 use borrow.Author.Needs.{needs}
 use Rattle.hop_rule.specs.Calls.{refusals}
-use Rattle.hop_cells.proofs.Read.{link-read}
 use Rattle.hop_judge.proofs.Judging.{refused-already, judged-next}
-use Rattle.hop_judge.proofs.Known.{cell-ready}
+use Rattle.hop_judge.proofs.Known.{ends-ready}
+use Rattle.hop_judge.proofs.Read.{differ-read}
 use Rattle.hop_judge.proofs.judge_up.Statement.{statement}
 use Rattle.hop_judge.proofs.judge_up.Tie as tie
 
-judge-ends-requires : tie.Need-judge-ends-requires
-judge-ends-requires c κs = search needs
+judge-apart-requires : tie.Need-judge-apart-requires
+judge-apart-requires c κs = search needs
 
 enum-known-n : tie.Need-enum-known-n
 enum-known-n c = search needs
 
-get2-requires : tie.Need-get2-requires
-get2-requires c κs = cell-ready _ _ _ _ (c .before .before .before .judge-ends .ensures) (c .before .n .given .1)
+differ-requires : tie.Need-differ-requires
+differ-requires c κs = ends-ready _ _ _ _ (c .before .before .before .judge-apart .ensures) (c .before .n .given .1)
 
 unless-requires : tie.Need-unless-requires
 unless-requires c κs = search needs
@@ -29,19 +28,19 @@ returns : tie.Need-returns
 unfolding refusals
 returns c =
     let at-n = c .before .before .before in
-    judged-next _ _ (at-n .before .before .judge-ends .ensures) _ (omega arith) (at-n .n .given .1) (λ claim. ap (λ x. eqb x 1) (c .before .get2 .ensures .0 ∙ link-read _ claim _ _)) (c .unless .ensures)
+    judged-next _ _ (at-n .before .before .judge-apart .ensures) _ (omega arith) (at-n .n .given .1) (λ claim. c .before .differ .ensures ∙ differ-read _ claim _ _) (c .unless .ensures)
 
 returns-2 : tie.Need-returns-2
 unfolding refusals
-returns-2 c = refused-already _ _ (c .before .before .judge-ends .ensures) _ (c .enum-told .given .1)
+returns-2 c = refused-already _ _ (c .before .before .judge-apart .ensures) _ (c .enum-told .given .1)
 
 pub judge-up-spec : {M : Type 1} → statement M
 judge-up-spec =
     tie.close
     (tie.spec
-    judge-ends-requires
+    judge-apart-requires
     enum-known-n
-    get2-requires
+    differ-requires
     unless-requires
     enum-told
     returns

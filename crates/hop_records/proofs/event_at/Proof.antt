@@ -1,11 +1,18 @@
 -- `hop_records::event_at` meets its contract: each arm knows the kind, at which the definitions of the length and of the event compute. Assumes nothing.
-use mathlib.Core.Path.{ap}
+use mathlib.Core.Path.{_≡_, ap}
+use mathlib.Core.Logic.{_≢_}
+use Prim.Native.Nat.{ℕ}
 use native.Mathlib.Omega.{arith}
 use borrow.Author.Tests.{ne-eqb}
 use borrow.Author.Needs.{needs}
 use Rattle.hop_rule.specs.Records.{lengthOf, eventOf}
 use Rattle.hop_records.proofs.event_at.Statement.{statement}
 use Rattle.hop_records.proofs.event_at.Tie as tie
+
+-- What is neither a make nor a pass has two numbers.
+six-else : (kind : ℕ) → kind ≢ 15 → kind ≢ 19 → lengthOf kind ≡ 6
+unfolding lengthOf
+six-else kind make pass = simp (ne-eqb _ _ make, ne-eqb _ _ pass)
 
 word-at-requires : tie.Need-word-at-requires
 unfolding lengthOf
@@ -44,6 +51,15 @@ word-at-requires-7 : tie.Need-word-at-requires-7
 unfolding lengthOf
 word-at-requires-7 c κs = omega (arith, ap lengthOf (c .before .match .keys4))
 
+word-at-requires-8 : tie.Need-word-at-requires-8
+word-at-requires-8 c κs = omega (arith, six-else _ (c .match .rest .0 .0 .0 .0 .1) (c .match .rest .1))
+
+add-word-at-4 : tie.Need-add-word-at-4
+add-word-at-4 c = search needs
+
+word-at-requires-9 : tie.Need-word-at-requires-9
+word-at-requires-9 c κs = omega (arith, six-else _ (c .before .match .rest .0 .0 .0 .0 .1) (c .before .match .rest .1))
+
 returns : tie.Need-returns
 unfolding eventOf
 returns c = rw (c .before .match .keys1, c .word-at .ensures)
@@ -62,7 +78,13 @@ returns-4 c = rw (c .before .before .match .keys4, c .before .word-at6 .ensures,
 
 returns-5 : tie.Need-returns-5
 unfolding eventOf
-returns-5 c = simp (ne-eqb _ _ (c .match .rest .0 .0 .0 .1), ne-eqb _ _ (c .match .rest .0 .0 .1), ne-eqb _ _ (c .match .rest .0 .1), ne-eqb _ _ (c .match .rest .1))
+returns-5 c = rw (c .match .keys5)
+
+returns-6 : tie.Need-returns-6
+unfolding eventOf
+returns-6 c =
+    let at-match = c .before .before in
+    simp (ne-eqb _ _ (at-match .match .rest .0 .0 .0 .0 .1), ne-eqb _ _ (at-match .match .rest .0 .0 .0 .1), ne-eqb _ _ (at-match .match .rest .0 .0 .1), ne-eqb _ _ (at-match .match .rest .0 .1), ne-eqb _ _ (at-match .match .rest .1), c .before .word-at8 .ensures, c .word-at9 .ensures)
 
 pub event-at-spec : {M : Type 1} → statement M
 event-at-spec =
@@ -78,8 +100,12 @@ event-at-spec =
     word-at-requires-6
     add-word-at-3
     word-at-requires-7
+    word-at-requires-8
+    add-word-at-4
+    word-at-requires-9
     returns
     returns-2
     returns-3
     returns-4
-    returns-5)
+    returns-5
+    returns-6)

@@ -35,6 +35,12 @@ enum-told c = search needs
 of-kind-requires-5 : tie.Need-of-kind-requires-5
 of-kind-requires-5 c κs = search needs
 
+enum-known-e-5 : tie.Need-enum-known-e-5
+enum-known-e-5 c = search needs
+
+of-kind-requires-6 : tie.Need-of-kind-requires-6
+of-kind-requires-6 c κs = search needs
+
 returns : tie.Need-returns
 unfolding kindOf bodyOf
 returns c = c .of-kind .ensures ∙ rw (c .before .before .e .given .1)
@@ -55,6 +61,10 @@ returns-5 : tie.Need-returns-5
 unfolding kindOf bodyOf
 returns-5 c = c .of-kind5 .ensures ∙ rw (c .before .enum-told .given .1)
 
+returns-6 : tie.Need-returns-6
+unfolding kindOf bodyOf
+returns-6 c = c .of-kind6 .ensures ∙ rw (c .before .before .e5 .given .1)
+
 pub numbers-of-spec : {M : Type 1} → statement M
 numbers-of-spec =
     tie.close
@@ -69,8 +79,11 @@ numbers-of-spec =
     of-kind-requires-4
     enum-told
     of-kind-requires-5
+    enum-known-e-5
+    of-kind-requires-6
     returns
     returns-2
     returns-3
     returns-4
-    returns-5)
+    returns-5
+    returns-6)

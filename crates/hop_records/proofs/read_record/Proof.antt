@@ -33,6 +33,10 @@ read-known-requires-5 : tie.Need-read-known-requires-5
 unfolding known
 read-known-requires-5 c κs = (c .before .before .before .pre, sym (c .before .word-at .ensures) ∙ c .match .keys5, refl)
 
+read-known-requires-6 : tie.Need-read-known-requires-6
+unfolding known
+read-known-requires-6 c κs = (c .before .before .before .pre, sym (c .before .word-at .ensures) ∙ c .match .keys6, refl)
+
 returns : tie.Need-returns
 returns c = search needs
 
@@ -49,10 +53,13 @@ returns-5 : tie.Need-returns-5
 returns-5 c = search needs
 
 returns-6 : tie.Need-returns-6
+returns-6 c = search needs
+
+returns-7 : tie.Need-returns-7
 unfolding readEvent known
-returns-6 c =
+returns-7 c =
     let h = head-is-there (c .before .before .before .args .s .now) (c .before .before .before .args .place) (c .before .before .before .pre) in
-    simp (h .0, h .1, h .2, ← c .before .word-at .ensures, ne-eqb _ _ (c .match .rest .0 .0 .0 .0 .1), ne-eqb _ _ (c .match .rest .0 .0 .0 .1), ne-eqb _ _ (c .match .rest .0 .0 .1), ne-eqb _ _ (c .match .rest .0 .1), ne-eqb _ _ (c .match .rest .1))
+    simp (h .0, h .1, h .2, ← c .before .word-at .ensures, ne-eqb _ _ (c .match .rest .0 .0 .0 .0 .0 .1), ne-eqb _ _ (c .match .rest .0 .0 .0 .0 .1), ne-eqb _ _ (c .match .rest .0 .0 .0 .1), ne-eqb _ _ (c .match .rest .0 .0 .1), ne-eqb _ _ (c .match .rest .0 .1), ne-eqb _ _ (c .match .rest .1))
 
 pub read-record-spec : {M : Type 1} → statement M
 read-record-spec =
@@ -65,9 +72,11 @@ read-record-spec =
     read-known-requires-3
     read-known-requires-4
     read-known-requires-5
+    read-known-requires-6
     returns
     returns-2
     returns-3
     returns-4
     returns-5
-    returns-6)
+    returns-6
+    returns-7)

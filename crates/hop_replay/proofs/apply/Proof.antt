@@ -60,6 +60,18 @@ pass-requires c κs = search needs
 number-of-requires : tie.Need-number-of-requires
 number-of-requires c κs = search needs
 
+enum-known-e-5 : tie.Need-enum-known-e-5
+enum-known-e-5 c = search needs
+
+cast-notice : tie.Need-cast-notice
+cast-notice c = search needs
+
+cast-notice-2 : tie.Need-cast-notice-2
+cast-notice-2 c = search needs
+
+notice-requires : tie.Need-notice-requires
+notice-requires c κs = search needs
+
 same-length : tie.Need-same-length
 same-length c = search needs
 
@@ -116,6 +128,17 @@ returns-5 c =
     let (number, bytes) = applied (at-args .args .e) (at-args .args .state .now) (ap callOf (at-enum-told .enum-told .given .1)) (at-pass .pass .ensures) in
     (c .number-of .ensures ∙ number, bytes)
 
+same-length-6 : tie.Need-same-length-6
+same-length-6 c = search needs
+
+returns-6 : tie.Need-returns-6
+unfolding callOf
+returns-6 c =
+    let at-notice = c .before .before in
+    let at-e5 = at-notice .before .before .before in
+    let at-args = at-e5 .before .before .before in
+    applied (at-args .args .e) (at-args .args .state .now) (ap callOf (at-e5 .e5 .given .1)) (at-notice .notice .ensures)
+
 pub apply-spec : {M : Type 1} → statement M
 apply-spec =
     tie.close
@@ -138,6 +161,10 @@ apply-spec =
     enum-told
     pass-requires
     number-of-requires
+    enum-known-e-5
+    cast-notice
+    cast-notice-2
+    notice-requires
     same-length
     returns
     same-length-2
@@ -147,4 +174,6 @@ apply-spec =
     same-length-4
     returns-4
     same-length-5
-    returns-5)
+    returns-5
+    same-length-6
+    returns-6)

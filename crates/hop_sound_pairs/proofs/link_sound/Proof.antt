@@ -12,21 +12,13 @@ returns : tie.Need-returns
 unfolding linkSound
 returns c = simp (← c .before .get2 .ensures .0, lt-leb _ _ (c .if1 .taken))
 
-get2-requires-2 : tie.Need-get2-requires-2
-get2-requires-2 c κs = search needs
-
 returns-2 : tie.Need-returns-2
 unfolding linkSound
-returns-2 c = simp (← c .before .before .before .get2 .ensures .0, ← c .before .get22 .ensures .0, le-leb _ _ (c .before .before .if1 .left), ne-eqb _ _ (c .if2 .taken))
+returns-2 c = simp (← c .before .before .get2 .ensures .0, le-leb _ _ (c .before .if1 .left), ne-eqb _ _ (c .if2 .taken))
 
 returns-3 : tie.Need-returns-3
 unfolding linkSound
-returns-3 c = simp (← c .before .before .before .before .get2 .ensures .0, ← c .before .before .get22 .ensures .0, le-leb _ _ (c .before .before .before .if1 .left), eq-eqb _ _ (c .before .if2 .left), ne-eqb _ _ (c .if3 .taken))
-
-returns-4 : tie.Need-returns-4
-unfolding linkSound
-returns-4 c = simp (← c .before .before .before .before .get2 .ensures .0, ← c .before .before .get22 .ensures .0, le-leb _ _ (c .before .before .before .if1 .left), eq-eqb _ _ (c .before .if2 .left), eq-eqb _ _ (c .if3 .left))
+returns-3 c = simp (← c .before .before .get2 .ensures .0, le-leb _ _ (c .before .if1 .left), eq-eqb _ _ (c .if2 .left))
 
 pub link-sound-spec : {M : Type 1} → statement M
-link-sound-spec =
-    tie.close (tie.spec get2-requires returns get2-requires-2 returns-2 returns-3 returns-4)
+link-sound-spec = tie.close (tie.spec get2-requires returns returns-2 returns-3)

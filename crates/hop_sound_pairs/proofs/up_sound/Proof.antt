@@ -5,12 +5,12 @@ use Rattle.hop_sound_pairs.specs.Pairs.{upSound}
 use Rattle.hop_sound_pairs.proofs.up_sound.Statement.{statement}
 use Rattle.hop_sound_pairs.proofs.up_sound.Tie as tie
 
-queue-sound-requires : tie.Need-queue-sound-requires
-queue-sound-requires c κs = search needs
+waiting-sound-requires : tie.Need-waiting-sound-requires
+waiting-sound-requires c κs = search needs
 
 returns : tie.Need-returns
 unfolding upSound
-returns c = simp (← c .before .queue-sound .ensures, not-true (c .before .queue-sound .result) (c .if1 .taken))
+returns c = simp (← c .before .waiting-sound .ensures, not-true (c .before .waiting-sound .result) (c .if1 .taken))
 
 row3-requires : tie.Need-row3-requires
 row3-requires c κs = search needs
@@ -32,13 +32,13 @@ all-allow-requires c κs = search needs
 
 returns-2 : tie.Need-returns-2
 unfolding upSound
-returns-2 c = simp (← c .before .before .before .before .before .queue-sound .ensures, not-false (c .before .before .before .before .before .queue-sound .result) (c .before .before .before .before .if1 .left), ← c .before .before .before .row3 .ensures .0, ← c .before .before .row2 .ensures .0, ← c .before .row22 .ensures .0, ← c .all-allow .ensures)
+returns-2 c = simp (← c .before .before .before .before .before .waiting-sound .ensures, not-false (c .before .before .before .before .before .waiting-sound .result) (c .before .before .before .before .if1 .left), ← c .before .before .before .row3 .ensures .0, ← c .before .before .row2 .ensures .0, ← c .before .row22 .ensures .0, ← c .all-allow .ensures)
 
 pub up-sound-spec : {M : Type 1} → statement M
 up-sound-spec =
     tie.close
     (tie.spec
-    queue-sound-requires
+    waiting-sound-requires
     returns
     row3-requires
     cast-all-allow

@@ -1,4 +1,4 @@
--- `tell` meets its contract: after w turns it is told on the up links to the nodes below w. Assumes nothing.
+-- `tell` meets its contract: after w turns it is told to the nodes below w to which both ends of the link are up. Assumes nothing.
 use mathlib.Core.Path.{_≡_, refl, sym}
 use Prim.Native.Nat.{_≤_, _-_}
 use native.Mathlib.Omega.{arith}

@@ -1,12 +1,17 @@
 -- `trial` meets its contract: what it counts is the line's, and the front that it copies makes the copy whole again. Assumes nothing.
 use native.Mathlib.Omega.{arith}
 use borrow.Author.Needs.{needs}
+use Rattle.hop_rule.specs.Stored.{read}
+use Rattle.hop_rest.proofs.Worth.{ascends}
 use Rattle.hop_trial.proofs.Carried.{state-room, front-fits, trial-done}
 use Rattle.hop_trial.proofs.trial.Statement.{statement}
 use Rattle.hop_trial.proofs.trial.Tie as tie
 
 turn-requires : tie.Need-turn-requires
-turn-requires c κs = search needs
+turn-requires c κs =
+    let x = c .before .before .before .args in
+    let p = c .before .before .before .pre in
+    (search needs, omega (arith, ascends (read (x .s .now)) (x .a) (x .b) (p .1), p .2), search needs)
 
 run-requires : tie.Need-run-requires
 run-requires c κs = search needs
@@ -26,8 +31,8 @@ start-requires c κs = search needs
 copy-requires : tie.Need-copy-requires
 copy-requires c κs =
     let p = c .before .before .before .before .before .before .before .before .before .before .before .before .before .before .before .before .before .before .pre in
-    let (read, wrote) = front-fits (p .0) _ _ (p .1) (p .2) _ (c .start .ensures) in
-    (read, omega (arith, wrote))
+    let (long, wide) = front-fits (p .0) _ _ (p .1) (p .2) _ (c .start .ensures) in
+    (long, omega (arith, wide))
 
 same-length : tie.Need-same-length
 same-length c = search needs

@@ -1,16 +1,16 @@
 -- `all_lines` meets its contract: before a, the lines of the nodes below a stand, and the copy is as it was. Assumes nothing.
 use mathlib.Core.Path.{_≡_, refl, sym, ap, _∙_}
-use Prim.Native.Nat.{suc, _+_, _*_, _-_, _≤_}
+use Prim.Native.Nat.{_+_, _*_, _-_, _≤_}
 use native.Mathlib.Nat.{le-antisymm}
 use native.Mathlib.Omega.{arith}
 use lib.ListN.{length}
 use lib.Seq.{sets, length-sets}
 use Rattle.hop_rule.specs.Words.{joined}
 use Rattle.hop_rule.specs.Stored.{read}
-use Rattle.hop_rule.specs.Worth.{numbers, lines}
+use Rattle.hop_rule.specs.Worth.{numbers}
 use Rattle.hop_laws.specs.Lines.{linesOf, linesBelow}
 use Rattle.hop_laws.proofs.Worth.{lines-are}
-use Rattle.hop_worth.proofs.Filling.{node-turn, node-count, copied-still, count-claimed, lines-most, node-room}
+use Rattle.hop_worth.proofs.Filling.{lines-behind, node-more, node-count, copied-still, count-claimed, lines-few, node-room}
 use Rattle.hop_worth.proofs.all_lines.Statement.{statement}
 use Rattle.hop_worth.proofs.all_lines.Tie as tie
 
@@ -50,10 +50,10 @@ loop-again c =
     let all = count-claimed (p .0) in
     let whole = ap (λ m. sets (at-loop .loop .list) (7 * at-loop .loop .k) (numbers (linesOf t (at-loop .loop .a) m))) all in (
       omega (arith, l),
-      count ∙ ap (λ m. at-loop .loop .k + (m - suc (at-loop .loop .a))) all ∙ node-count t (at-loop .loop .a) (inv .1),
+      count ∙ ap (λ m. at-loop .loop .k + length (linesOf t (at-loop .loop .a) m)) all ∙ node-count t (at-loop .loop .a) (inv .1),
       still ∙ inv .2,
       ap length put ∙ length-sets (at-loop .loop .list) (7 * at-loop .loop .k) (numbers (linesOf t (at-loop .loop .a) (x .n))) ∙ inv .3,
-      node-turn t (at-loop .loop .a) (x .list .now) (inv .1) (inv .4) (put ∙ whole),
+      lines-behind (linesBelow t (at-loop .loop .a)) (linesOf t (at-loop .loop .a) (t .n)) 0 (x .list .now) (omega (arith, inv .1)) (inv .4) (put ∙ whole) ∙ ap (λ ls. sets (x .list .now) 0 (numbers ls)) (node-more t (at-loop .loop .a)),
     )
 
 same-length : tie.Need-same-length Inv-loop μ-loop
@@ -71,7 +71,7 @@ returns c =
     let all = le-antisymm (inv .0) (c .loop-test .left) ∙ count-claimed h in
     let count = inv .1 ∙ ap (λ m. length (linesBelow t m)) all ∙ ap length (sym (lines-are t)) in (
       count,
-      omega (arith, count, lines-most h),
+      omega (arith, count, lines-few h),
       inv .4 ∙ ap (λ m. sets (x .list .now) 0 (numbers (linesBelow t m))) all ∙ ap (λ ls. sets (x .list .now) 0 (numbers ls)) (sym (lines-are t)),
       inv .2,
     )
