@@ -6,7 +6,7 @@ use std::env;
 use std::path::{Path, PathBuf};
 
 /// The calls that came with a request.
-const LATER: [&str; 3] = ["worth", "why", "route"];
+const LATER: [&str; 4] = ["worth", "why", "route", "notice"];
 
 /// Says to the sources which of these an older archive has: their names stand in it, each with a zero behind.
 fn tell_later(archive: &Path) {
@@ -34,7 +34,7 @@ fn link(archive: &Path, found: &str) {
 }
 
 fn main() {
-    println!("cargo:rustc-check-cfg=cfg(archive, before, before_worth, before_why, before_route)");
+    println!("cargo:rustc-check-cfg=cfg(archive, before, before_worth, before_why, before_route, before_notice)");
     println!("cargo:rerun-if-env-changed=HOP_ARCHIVE");
     println!("cargo:rerun-if-env-changed=HOP_BEFORE");
     let root = Path::new(&env::var("CARGO_MANIFEST_DIR").expect("cargo sets it")).join("..");

@@ -120,9 +120,9 @@ pub fn row(core: &dyn Engine, beside: &dyn Engine, row: &Row) -> Result<Best, St
     Ok(best_of(|| of_core.once(), || of_beside.once()))
 }
 
-/// Times the writing of a thousand event records.
-pub fn write(core: &dyn Engine, beside: &dyn Engine) -> Result<Best, String> {
-    let events = events();
+/// Times the writing of a thousand event records, of so many kinds.
+pub fn write(core: &dyn Engine, beside: &dyn Engine, kinds: u32) -> Result<Best, String> {
+    let events = events(kinds);
     let all = |engine: &dyn Engine, out: &mut Vec<u8>| {
         let mut place = 0;
         for &(kind, first, second) in &events {
@@ -142,9 +142,9 @@ pub fn write(core: &dyn Engine, beside: &dyn Engine) -> Result<Best, String> {
     Ok(best_of(|| timed(core, &mut of_core), || timed(beside, &mut of_beside)))
 }
 
-/// Times the reading of a thousand event records.
-pub fn read(core: &dyn Engine, beside: &dyn Engine) -> Result<Best, String> {
-    let script = script();
+/// Times the reading of a thousand event records, of so many kinds.
+pub fn read(core: &dyn Engine, beside: &dyn Engine, kinds: u32) -> Result<Best, String> {
+    let script = script(kinds);
     let all = |engine: &dyn Engine| {
         let (mut place, mut sum) = (0, 0_u64);
         loop {

@@ -119,6 +119,9 @@ pub fn rows(n: usize) -> Vec<Row> {
         row("down, at rest, a line", at_rest(line(n)), Call::Down { a: 0, b: 1 }),
         row("down, at rest, four links", at_rest(four_links(n)), Call::Down { a: 0, b: 1 }),
         row("down, at rest, all links", at_rest(complete(n)), Call::Down { a: 0, b: last }),
+        row("notice, at rest, a line", at_rest(line(n)), Call::Notice { noticing: 0, other: 1 }),
+        row("notice, at rest, four links", at_rest(four_links(n)), Call::Notice { noticing: 0, other: 1 }),
+        row("notice, at rest, all links", at_rest(complete(n)), Call::Notice { noticing: 0, other: last }),
         row("deliver, all queues full", complete(n), Call::Deliver { from: 0, to: last }),
         row("deliver, full, four links", four_links(n), Call::Deliver { from: 0, to: 1 }),
         row("pass, all queues full", complete(n), Call::Pass),
@@ -140,15 +143,15 @@ pub fn rows(n: usize) -> Vec<Row> {
     rows
 }
 
-/// Event records, one of each kind in turn.
-pub fn events() -> Vec<(u32, u16, u16)> {
-    (0..1000).map(|k| (15 + k % 5, (k % 40) as u16, (k % 39) as u16)).collect()
+/// Event records, one of each of the first so many kinds in turn: an older core knows fewer.
+pub fn events(kinds: u32) -> Vec<(u32, u16, u16)> {
+    (0..1000).map(|k| (15 + k % kinds, (k % 40) as u16, (k % 39) as u16)).collect()
 }
 
 /// A run of these records.
-pub fn script() -> Vec<u8> {
+pub fn script(kinds: u32) -> Vec<u8> {
     let mut script = Vec::new();
-    for (kind, first, second) in events() {
+    for (kind, first, second) in events(kinds) {
         let mut record = [0; 8];
         let written = Safe.write_event(kind, first, second, &mut record);
         script.extend_from_slice(&record[..written.value as usize]);

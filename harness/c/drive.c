@@ -55,6 +55,7 @@ static void nothing(void)
     MUST(hop_check(NULL, 0) == 2);
     MUST(hop_up(NULL, 0, 0, 1) == 2);
     MUST(hop_down(NULL, 0, 0, 1) == 2);
+    MUST(hop_notice(NULL, 0, 0, 1) == 2);
     MUST(hop_deliver(NULL, 0, 0, 1) == 2);
     MUST(hop_pass(NULL, 0).code == 2);
     MUST(hop_run(NULL, 0, 255).code == 2);
@@ -65,7 +66,8 @@ static void nothing(void)
     MUST(hop_worth(NULL, 0, NULL, 0, NULL, 0).code == 2);
     MUST(hop_why(NULL, 0, 0, 0, NULL, 0).code == 2);
     MUST(hop_write_event(19, 0, 0, NULL, 0).code == 2);
-    MUST(hop_write_event(20, 0, 0, NULL, 0).code == 10);
+    MUST(hop_write_event(20, 0, 0, NULL, 0).code == 2);
+    MUST(hop_write_event(21, 0, 0, NULL, 0).code == 10);
     event = hop_read_event(NULL, 0, &place);
     MUST(event.code == 0 && event.kind == 0 && place == 0);
     place = 1;
@@ -84,12 +86,14 @@ static void short_buffers(size_t n)
         state[0] = (uint8_t)n;
         MUST(hop_check(state, length) == 2);
         MUST(hop_up(state, length, 0, 1) == 2);
+        MUST(hop_notice(state, length, 0, 1) == 2);
         MUST(hop_pass(state, length).code == 2);
         MUST(is_way(hop_route(state, length, 0, 0), 2, 0, 0));
         MUST(hop_worth(state, length, NULL, 0, NULL, 0).code == 2);
         MUST(hop_why(state, length, 0, 0, NULL, 0).code == 2);
         state[0] = 41;
         MUST(hop_check(state, length) == 1);
+        MUST(hop_notice(state, length, 0, 1) == 1);
         MUST(is_way(hop_route(state, length, 0, 0), 1, 0, 0));
         MUST(hop_worth(state, length, NULL, 0, NULL, 0).code == 1);
         MUST(hop_why(state, length, 0, 0, NULL, 0).code == 1);
@@ -113,17 +117,37 @@ static void questions(const uint8_t *state, size_t length, size_t n)
     free(record);
 }
 
-/* Each line is its pair's. A link that is up is taken away and gains nothing; one that is down is put up and loses
- * nothing. */
+/* Whether a's end of its link to b is up. */
+static int end_up(const uint8_t *state, size_t n, size_t a, size_t b)
+{
+    return state[1 + a * n + b];
+}
+
+/* Pairs of which one end is up. */
+static size_t one_ended(const uint8_t *state, size_t n)
+{
+    size_t count = 0;
+    for (size_t a = 0; a < n; a++) {
+        for (size_t b = a + 1; b < n; b++)
+            count += end_up(state, n, a, b) != end_up(state, n, b, a);
+    }
+    return count;
+}
+
+/* Each line is its pair's, and a pair of which one end is up has none. A link that is up is taken away and gains nothing;
+ * one that is down is put up and loses nothing. */
 static int in_order(const uint8_t *state, size_t n, const int32_t *line)
 {
     for (size_t a = 0; a < n; a++) {
-        for (size_t b = a + 1; b < n; b++, line += 7) {
-            int is_up = state[1 + a * n + b];
+        for (size_t b = a + 1; b < n; b++) {
+            int is_up = end_up(state, n, a, b);
+            if (is_up != end_up(state, n, b, a))
+                continue;
             if ((size_t)line[0] != a || (size_t)line[1] != b || line[2] > (int32_t)n || line[3] < line[2])
                 return 0;
             if (is_up ? line[5] != 0 || line[6] < 0 : line[4] != 0 || line[6] > 0)
                 return 0;
+            line += 7;
         }
     }
     return 1;
@@ -145,7 +169,7 @@ static hop_answer worth(const uint8_t *state, size_t length, size_t n, size_t tr
 /* What each link of a site at rest is worth: in buffers of exact size, in longer ones, and in short ones. */
 static void worths(const uint8_t *state, size_t length, size_t n)
 {
-    size_t size = hop_size(n), pairs = n * (n - 1) / 2;
+    size_t size = hop_size(n), pairs = n * (n - 1) / 2 - one_ended(state, n);
     hop_answer answer = worth(state, length, n, size, 7 * pairs);
     MUST(answer.code == 0 && answer.value == pairs);
     MUST(worth(state, length, n, size - 1, 7 * pairs).code == 2);
@@ -155,11 +179,13 @@ static void worths(const uint8_t *state, size_t length, size_t n)
         MUST(worth(state, length, n, size + n, 7 * pairs + n).value == pairs);
 }
 
-/* A path: its ends, and at each step an up link, which the route goes by with the hops that are left. */
+/* A path: its ends, and at each step a link with both ends up, which the route goes by with the hops that are left. */
 static int is_path(const uint8_t *state, size_t n, size_t node, size_t destination, const uint8_t *list, size_t count)
 {
     for (size_t k = 0; k + 1 < count; k++) {
-        if (list[k] >= n || list[k + 1] >= n || state[1 + list[k] * n + list[k + 1]] != 1)
+        if (list[k] >= n || list[k + 1] >= n)
+            return 0;
+        if (!end_up(state, n, list[k], list[k + 1]) || !end_up(state, n, list[k + 1], list[k]))
             return 0;
         if (!is_way(hop_route(state, hop_size(n), list[k], destination), 0, count - 1 - k, list[k + 1]))
             return 0;
@@ -178,7 +204,7 @@ static int is_set(const uint8_t *state, size_t n, size_t node, size_t destinatio
     }
     for (size_t a = 0; a < n; a++) {
         for (size_t b = 0; b < n; b++) {
-            if (inside[a] && !inside[b] && state[1 + a * n + b] != 0)
+            if (inside[a] && !inside[b] && end_up(state, n, a, b))
                 return 0;
         }
     }
@@ -216,6 +242,31 @@ static void whys(const uint8_t *state, size_t length, size_t n)
     MUST(hop_why(state, length, 0, 0, NULL, 0).code == 2);
 }
 
+/* A run to rest takes at most n passes. */
+static void to_rest(uint8_t *state, size_t length, size_t n)
+{
+    hop_ran ran = hop_run(state, length, 255);
+    MUST(ran.code == 0 && ran.passes <= n);
+    MUST(hop_total_queued(state, length).value == 0);
+    MUST(hop_check(state, length) == 0);
+}
+
+/* Gives the notices that are missing: link down where one end is up. Nothing else is left to notice then. */
+static void missing(uint8_t *state, size_t length, size_t n)
+{
+    for (size_t a = 0; a < n; a++) {
+        for (size_t b = a + 1; b < n; b++) {
+            if (end_up(state, n, a, b) == end_up(state, n, b, a))
+                continue;
+            MUST(hop_up(state, length, a, b) == 13);
+            MUST(hop_deliver(state, length, a, b) == 7 && hop_deliver(state, length, b, a) == 7);
+            MUST(hop_down(state, length, a, b) == 0);
+            MUST(hop_notice(state, length, a, b) == 7 && hop_notice(state, length, b, a) == 7);
+        }
+    }
+    MUST(one_ended(state, n) == 0);
+}
+
 /* Random events in a buffer with bytes behind the state that nobody has written. */
 static void events(size_t n, size_t behind, int steps)
 {
@@ -225,21 +276,25 @@ static void events(size_t n, size_t behind, int steps)
     for (int k = 0; k < steps; k++) {
         size_t a = below(n), b = below(n);
         uint32_t code;
-        switch (below(6)) {
+        switch (below(7)) {
         case 0:
         case 1:
             code = hop_up(state, length, a, b);
-            MUST(code == 0 || code == 5 || code == 6);
+            MUST(code == 0 || code == 5 || code == 6 || code == 13);
             break;
         case 2:
             code = hop_down(state, length, a, b);
             MUST(code == 0 || code == 5 || code == 7);
             break;
         case 3:
+            code = hop_notice(state, length, a, b);
+            MUST(code == 0 || code == 5 || code == 7);
+            break;
+        case 4:
             code = hop_deliver(state, length, a, b);
             MUST(code == 0 || code == 5 || code == 7 || code == 8);
             break;
-        case 4: {
+        case 5: {
             uint32_t waiting = hop_total_queued(state, length).value;
             MUST(hop_pass(state, length).value == waiting);
             break;
@@ -251,17 +306,20 @@ static void events(size_t n, size_t behind, int steps)
     }
     if (hop_total_queued(state, length).value > 0)
         MUST(worth(state, length, n, hop_size(n), 7 * n * n).code == 12 && why(state, length, 0, n - 1, n).code == 12);
-    hop_ran ran = hop_run(state, length, 255);
-    MUST(ran.code == 0 && ran.passes <= n);
-    MUST(hop_total_queued(state, length).value == 0);
-    MUST(hop_check(state, length) == 0);
+    to_rest(state, length, n);
     /* All trials of all large sites would take long; one of them is enough. */
     if (n <= 16 || n == 40)
         worths(state, length, n);
+    if (one_ended(state, n) > 0) {
+        MUST(why(state, length, 0, n - 1, n).code == 13 && why(state, length, 0, 0, 0).code == 13);
+        missing(state, length, n);
+        to_rest(state, length, n);
+    }
     whys(state, length, n);
     state[1] = 2;
     MUST(hop_check(state, length) == 3);
     MUST(hop_run(state, length, 255).code == 3);
+    MUST(hop_notice(state, length, n, n) == 3);
     MUST(is_way(hop_route(state, length, n, n), 3, 0, 0));
     MUST(worth(state, length, n, 0, 0).code == 3);
     MUST(why(state, length, n, n, 0).code == 3);
@@ -271,8 +329,8 @@ static void events(size_t n, size_t behind, int steps)
 /* Records of exact length, whole and cut. */
 static void records(void)
 {
-    static const size_t bytes[5] = {6, 8, 8, 8, 4};
-    for (uint32_t kind = 15; kind <= 19; kind++) {
+    static const size_t bytes[6] = {6, 8, 8, 8, 4, 8};
+    for (uint32_t kind = 15; kind <= 20; kind++) {
         size_t length = bytes[kind - 15];
         uint8_t *record = room(length);
         hop_answer written = hop_write_event(kind, 0x0102, 0xfffe, record, length);

@@ -23,8 +23,8 @@ pub fn before() -> Option<&'static dyn Engine> {
 
 /// The calls that the other archive lacks, since it is older than they are. There is no answer to any of them.
 pub fn before_lacks() -> Vec<&'static str> {
-    let has = [("worth", cfg!(before_worth)), ("why", cfg!(before_why)), ("route", cfg!(before_route))];
-    has.into_iter().filter(|&(_, has)| !has).map(|(call, _)| call).collect()
+    let has = [cfg!(before_worth), cfg!(before_why), cfg!(before_route), cfg!(before_notice)];
+    ["worth", "why", "route", "notice"].into_iter().zip(has).filter(|&(_, has)| !has).map(|(call, _)| call).collect()
 }
 
 /// Calls of an archive, with this in front of their names. Where the archive lacks them there is no answer to any.
@@ -46,7 +46,7 @@ macro_rules! calls {
 /// The core whose calls have this in front of their names. Those that came with a request are there under a condition.
 #[cfg(any(archive, before))]
 macro_rules! linked {
-    ($name:ident, $before:literal, worth: $worth:meta, why: $why:meta, route: $route:meta) => {
+    ($name:ident, $before:literal, worth: $worth:meta, why: $why:meta, route: $route:meta, notice: $notice:meta) => {
         mod $name {
             use crate::engine::{Answer, Engine, Ran, Read, Reason, Way};
 
@@ -76,6 +76,9 @@ macro_rules! linked {
             calls! { $before, $route,
                 fn hop_route(state: *const u8, len: usize, node: usize, destination: usize) -> Way;
             }
+            calls! { $before, $notice,
+                fn hop_notice(state: *mut u8, len: usize, noticing: usize, other: usize) -> u32;
+            }
 
             pub struct Core;
 
@@ -99,6 +102,10 @@ macro_rules! linked {
 
                 fn down(&self, state: &mut [u8], a: usize, b: usize) -> u32 {
                     unsafe { hop_down(state.as_mut_ptr(), state.len(), a, b) }
+                }
+
+                fn notice(&self, state: &mut [u8], noticing: usize, other: usize) -> u32 {
+                    unsafe { hop_notice(state.as_mut_ptr(), state.len(), noticing, other) }
                 }
 
                 fn deliver(&self, state: &mut [u8], from: usize, to: usize) -> u32 {
@@ -152,6 +159,6 @@ macro_rules! linked {
 }
 
 #[cfg(archive)]
-linked!(linked, "", worth: all(), why: all(), route: all());
+linked!(linked, "", worth: all(), why: all(), route: all(), notice: all());
 #[cfg(before)]
-linked!(renamed, "before_", worth: before_worth, why: before_why, route: before_route);
+linked!(renamed, "before_", worth: before_worth, why: before_why, route: before_route, notice: before_notice);

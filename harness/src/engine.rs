@@ -53,6 +53,7 @@ pub trait Engine {
     fn check(&self, state: &[u8]) -> u32;
     fn up(&self, state: &mut [u8], a: usize, b: usize) -> u32;
     fn down(&self, state: &mut [u8], a: usize, b: usize) -> u32;
+    fn notice(&self, state: &mut [u8], noticing: usize, other: usize) -> u32;
     fn deliver(&self, state: &mut [u8], from: usize, to: usize) -> u32;
     fn pass(&self, state: &mut [u8]) -> Answer;
     fn run(&self, state: &mut [u8], allowance: u8) -> Ran;

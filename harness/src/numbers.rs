@@ -1,5 +1,7 @@
-//! The documents' own numbers, held against any core. Uses the trait, the second's reading of stored bytes, and lists of
-//! pairs.
+//! The documents' own numbers, held against any core; those of links whose ends do not notice together are in `ends`. Uses
+//! the trait, the second's reading of stored bytes, and lists of pairs.
+
+mod ends;
 
 use crate::compare::states::{all_pairs, pairs};
 use crate::engine::{Answer, Engine, Ran, Reason, Way};
@@ -38,6 +40,17 @@ pub const NUMBERS: &[(&str, Check)] = &[
     ("R-3 refusals and their order", why_refused),
     ("R-4 line of 3 with a node apart, before rest and at rest", route_of_line),
     ("R-4 refusals and their order", route_refused),
+    ("R-5 line of 3, 1 notices that 2 is gone", ends::line),
+    ("R-5 what the end still up sends is dropped", ends::dropped),
+    ("R-5 the notices in either order, and link down", ends::orders),
+    ("R-5 entries under way are lost", ends::under_way),
+    ("R-5 the bytes of a link with one end up", ends::bytes),
+    ("R-5 what is sound of such a link", ends::sound),
+    ("R-5 refusals and their order", ends::refused),
+    ("R-5 in R-1: line of 3, 1 has noticed that 2 is gone", ends::worth_of_line),
+    ("R-5 in R-3: refusals and their order", ends::why_refused),
+    ("R-5 780 links of 40, the lower ends notice", ends::complete),
+    ("R-5 records of kind 20", ends::records),
 ];
 
 /// Two things that document 01 says are equal.
@@ -218,10 +231,14 @@ fn line(core: &dyn Engine) -> Held {
 
 /// The worth of each link of a site at rest, seven numbers a line, with a place more in trial and list than needed.
 fn worth(core: &dyn Engine, n: usize, links: &[(usize, usize)]) -> Result<Vec<[i32; 7]>, String> {
-    let state = rested(core, n, links)?;
-    let (before, pairs) = (state.clone(), n * (n - 1) / 2);
+    worth_of(core, &rested(core, n, links)?, n * (n - 1) / 2)
+}
+
+/// The same of a state that has so many lines.
+fn worth_of(core: &dyn Engine, state: &[u8], pairs: usize) -> Result<Vec<[i32; 7]>, String> {
+    let before = state.to_vec();
     let (mut trial, mut list) = (vec![0xee; state.len() + 1], vec![i32::MIN; 7 * pairs + 1]);
-    same("worth", core.worth(&state, &mut trial, &mut list), answered(pairs as u32))?;
+    same("worth", core.worth(state, &mut trial, &mut list), answered(pairs as u32))?;
     same("the state stays", state == before, true)?;
     same("behind the copy and behind the lines", (trial.pop(), list.pop()), (Some(0xee), Some(i32::MIN)))?;
     same("the trial is a copy", trial == state, true)?;

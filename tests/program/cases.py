@@ -1,5 +1,5 @@
 #!/usr/bin/env python3
-"""What the program must print, from document 01 alone: a model of it that shares no code with the core and the second implementation,
+"""What the program must print, from document 01 and 02's R-5 alone: a model of it that shares no code with the core and the second implementation,
 the scripts that the built program is run on, and the texts that it must print for them.
 
     python3 tests/program/cases.py [PROGRAM]    runs target/bin/hop_program, or another, on each; the last line is 'N passed, M failed'
@@ -17,10 +17,10 @@ class Network:
 
     def __init__(self, n):
         self.n = n
-        self.links = set()                                             # pairs, in both directions
+        self.links = set()                                             # ends that are up, each as its own node and the other one
         self.route = {(u, v): (0, u) if u == v else (n, None) for u in range(n) for v in range(n)}
-        self.view = {}                                                 # (node, neighbour, destination) on up links; absent is n
-        self.queue = {}                                                # (sender, receiver) on up links: a list of [destination, value]
+        self.view = {}                                                 # (node, neighbour, destination) where the node's end is up; absent is n
+        self.queue = {}                                                # (sender, receiver) where both ends are up: a list of [destination, value]
 
     def neighbours(self, u):
         return [w for w in range(self.n) if (u, w) in self.links]
@@ -37,7 +37,8 @@ class Network:
         self.route[u, v] = (best, via)
         if changed:
             for w in self.neighbours(u):
-                self.send(u, w, v, best)
+                if (w, u) in self.links:                               # what goes to an end that has noticed is dropped
+                    self.send(u, w, v, best)
 
     def send(self, u, w, v, d):
         for entry in self.queue[u, w]:
@@ -51,15 +52,20 @@ class Network:
             self.links.add((x, y))
             self.queue[x, y] = [[v, self.route[x, v][0]] for v in range(self.n)]
 
+    def notice(self, a, b):
+        """a sees that its link to b is dead; b does not yet."""
+        self.links.remove((a, b))
+        self.queue.pop((a, b), None)
+        self.queue.pop((b, a), None)
+        for v in range(self.n):
+            self.view.pop((a, b, v), None)
+        for v in range(self.n):
+            self.recompute(a, v)
+
     def down(self, a, b):
-        for x, y in (a, b), (b, a):
-            self.links.discard((x, y))
-            del self.queue[x, y]
-            for v in range(self.n):
-                self.view.pop((x, y, v), None)
-        for x in a, b:
-            for v in range(self.n):
-                self.recompute(x, v)
+        for x, y in sorted([(a, b), (b, a)]):                          # the lower number first
+            if (x, y) in self.links:
+                self.notice(x, y)
 
     def deliver(self, w, u):
         v, d = self.queue[w, u].pop(0)
@@ -95,24 +101,31 @@ def apply(net, kind, body):
         return net, 4
     if a == b:
         return net, 5
-    is_up = (a, b) in net.links
+    ends = {(a, b), (b, a)} & net.links
     if kind == 16:
-        if is_up:
-            return net, 6
+        if ends:
+            return net, {2: 6, 1: 13}[len(ends)]
         net.up(a, b)
         return net, 0
-    if not is_up:
-        return net, 7
     if kind == 17:
+        if not ends:
+            return net, 7
         net.down(a, b)
         return net, 0
+    if kind == 20:
+        if (a, b) not in ends:
+            return net, 7
+        net.notice(a, b)
+        return net, 0
+    if len(ends) < 2:
+        return net, 7
     if not net.queue[a, b]:
         return net, 8
     net.deliver(a, b)
     return net, 0
 
 
-LENGTHS = {15: 4, 16: 6, 17: 6, 18: 6, 19: 2}
+LENGTHS = {15: 4, 16: 6, 17: 6, 18: 6, 19: 2, 20: 6}
 
 
 def read(script, at):
@@ -159,6 +172,7 @@ def make(n): return record(15, n)
 def up(a, b): return record(16, a, b)
 def down(a, b): return record(17, a, b)
 def deliver(a, b): return record(18, a, b)
+def notice(a, b): return record(20, a, b)
 
 
 PASS = record(19)
@@ -171,7 +185,7 @@ REFUSALS = (make(0) + make(41) + make(65535) + make(28) + make(3) + up(0, 3) + u
 
 # 27 nodes fit and 28 do not; all their 351 links come up, and the last record's kind is unknown.
 MAKES = (make(40) + make(28) + make(27) + b"".join(up(a, b) for a in range(27) for b in range(a + 1, 27)) + PASS + PASS + PASS + make(28)
-         + b"".join(down(0, b) for b in range(2, 27)) + PASS + PASS + PASS + down(0, 1) + PASS * 30 + record(20) + PASS)
+         + b"".join(down(0, b) for b in range(2, 27)) + PASS + PASS + PASS + down(0, 1) + PASS * 30 + record(21) + PASS)
 
 # The last record begins four bytes before the limit, which cuts its body off, and more follows behind it.
 FRONT = make(2) + make(5) + up(0, 1) + up(1, 2) + up(2, 3)
@@ -189,6 +203,28 @@ LENGTH = WORKED + (8).to_bytes(2, "little") + down(0, 1)[2:]           # two byt
 # It comes in pieces of three bytes, so that no piece is a whole record.
 PIECES = make(4) + up(0, 1) + up(1, 2) + up(2, 3) + deliver(2, 1) + PASS + up(3, 0) + PASS + PASS + down(1, 2) + deliver(0, 3) + PASS * 4
 
+# 1 notices before 2 does: 2 keeps its way over the dead link, and tells 0 alone when 0-2 comes up; record 17 gives the notice that is missing.
+LINE = make(3) + up(0, 1) + up(1, 2) + PASS * 3
+NOTICES = (LINE + notice(1, 2) + notice(1, 2) + up(1, 2) + up(2, 1) + deliver(1, 2) + deliver(2, 1) + PASS * 3 + up(0, 2) + deliver(0, 2) + PASS + down(2, 1) + PASS * 3
+           + notice(2, 1) + down(1, 2) + up(1, 2) + PASS * 3 + notice(2, 1) + notice(1, 2) + PASS * 3 + up(2, 1) + PASS * 2)
+
+# The end that has not noticed is left so, and its rows are printed as it has them.
+STALE = LINE + up(2, 0) + PASS * 2 + notice(1, 2) + notice(0, 2) + PASS * 3
+
+# 4 and 5 are told before 7 and 13, with an end up alone or none; a notice of a link that was never up.
+NOTICE_REFUSALS = (notice(0, 0) + notice(0, 1) + make(4) + notice(0, 1) + notice(1, 0) + up(0, 1) + notice(2, 3) + notice(4, 0) + notice(0, 4) + notice(4, 4) + notice(65535, 1)
+                   + notice(3, 3) + notice(1, 0) + up(1, 1) + up(0, 4) + up(260, 1) + up(0, 1) + up(1, 0) + deliver(0, 1) + deliver(1, 0) + notice(0, 1) + notice(0, 1) + up(0, 1))
+
+# All links of 27 nodes, of which the lower end notices, then the higher one of every third; link down of the others.
+LINKS = [(a, b) for a in range(27) for b in range(a + 1, 27)]
+LONE = (make(27) + b"".join(up(a, b) for a, b in LINKS) + PASS * 2 + b"".join(notice(a, b) for a, b in LINKS) + PASS + b"".join(notice(b, a) for a, b in LINKS[::3])
+        + b"".join(down(a, b) for a, b in LINKS[1::3]))
+
+# A notice that ends the reading: its body is cut, it has a length of its neighbours, and the kind behind it is none.
+NOTICE_BODY = WORKED + notice(0, 1)[:-2] + b"\0"
+NOTICE_LENGTH = WORKED + record(20, 0) + PASS
+NOTICE_KIND = WORKED + notice(1, 0) + record(21, 0, 1) + PASS
+
 CASES = {
     "worked": WORKED,
     "nothing": b"",
@@ -202,6 +238,13 @@ CASES = {
     "kind": KIND,
     "length": LENGTH,
     "pieces": PIECES,
+    "notices": NOTICES,
+    "stale": STALE,
+    "notice-refusals": NOTICE_REFUSALS,
+    "lone": LONE,
+    "notice-body": NOTICE_BODY,
+    "notice-length": NOTICE_LENGTH,
+    "notice-kind": NOTICE_KIND,
 }
 IN_PIECES = {"pieces": 3}
 PATIENCE = 20                                                          # seconds

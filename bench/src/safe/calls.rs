@@ -33,6 +33,11 @@ fn ends(n: usize, a: usize, b: usize) -> Judged<()> {
     if a == b { Err(5) } else { Ok(()) }
 }
 
+/// No link has just one end up.
+fn all_whole(state: &[u8], n: usize) -> Judged<()> {
+    if pairs(&Parts::of(state, n)).count() == n * (n - 1) / 2 { Ok(()) } else { Err(13) }
+}
+
 /// No entry waits.
 fn at_rest(state: &[u8], n: usize) -> Judged<()> {
     if all_are(Parts::of(state, n).lengths, 0) { Ok(()) } else { Err(12) }
@@ -53,18 +58,21 @@ fn sum(bytes: impl Iterator<Item = u8>) -> u32 {
     bytes.map(u32::from).sum()
 }
 
-fn change(state: &mut [u8], a: usize, b: usize, link: u8, refused: u32) -> Judged<PartsMut<'_>> {
+/// The blocks of a sound state, for two nodes that can be ends of a link. What is asked is judged by whether a's end and
+/// b's end are up.
+fn change(state: &mut [u8], a: usize, b: usize, judge: fn([bool; 2]) -> Judged<()>) -> Judged<PartsMut<'_>> {
     let n = sound_state(state)?;
     ends(n, a, b)?;
     let parts = PartsMut::of(state, n);
-    if parts.links[a * n + b] == link { Ok(parts) } else { Err(refused) }
+    judge([parts.links[a * n + b] == 1, parts.links[b * n + a] == 1])?;
+    Ok(parts)
 }
 
 /// How many body numbers an event kind has.
 fn body(kind: u32) -> Judged<usize> {
     match kind {
         15 => Ok(1),
-        16..=18 => Ok(2),
+        16..=18 | 20 => Ok(2),
         19 => Ok(0),
         _ => Err(10),
     }
@@ -96,16 +104,18 @@ fn route(state: &[u8], node: usize, destination: usize) -> Judged<Way> {
 fn worth(state: &[u8], trial: &mut [u8], lines: &mut [i32]) -> Judged<u32> {
     let n = sound_state(state)?;
     at_rest(state, n)?;
+    let count = pairs(&Parts::of(state, n)).count();
     let trial = trial.get_mut(..size(n)).ok_or(2_u32)?;
-    let lines = lines.get_mut(..LINE * pairs(n)).ok_or(2_u32)?;
+    let lines = lines.get_mut(..LINE * count).ok_or(2_u32)?;
     try_all(&state[..size(n)], n, trial, lines);
-    Ok(pairs(n) as u32)
+    Ok(count as u32)
 }
 
 fn why(state: &[u8], node: usize, destination: usize, list: &mut [u8]) -> Judged<Reason> {
     let n = sound_state(state)?;
     below(n, node, destination)?;
     at_rest(state, n)?;
+    all_whole(state, n)?;
     let (kind, count) = explain(&Parts::of(state, n), node, destination, list).ok_or(2_u32)?;
     Ok(Reason { code: 0, kind, count: count as u32 })
 }
@@ -179,15 +189,27 @@ impl Engine for Safe {
     }
 
     fn up(&self, state: &mut [u8], a: usize, b: usize) -> u32 {
-        code(change(state, a, b, 0, 6).map(|mut parts| parts.up(a, b)))
+        let judged = change(state, a, b, |up| match up {
+            [false, false] => Ok(()),
+            [true, true] => Err(6),
+            _ => Err(13),
+        });
+        code(judged.map(|mut parts| parts.up(a, b)))
     }
 
     fn down(&self, state: &mut [u8], a: usize, b: usize) -> u32 {
-        code(change(state, a, b, 1, 7).map(|mut parts| parts.down(a, b)))
+        let judged = change(state, a, b, |up| if up == [false, false] { Err(7) } else { Ok(()) });
+        code(judged.map(|mut parts| parts.down(a, b)))
+    }
+
+    fn notice(&self, state: &mut [u8], noticing: usize, other: usize) -> u32 {
+        let judged = change(state, noticing, other, |up| if up[0] { Ok(()) } else { Err(7) });
+        code(judged.map(|mut parts| parts.notice(noticing, other)))
     }
 
     fn deliver(&self, state: &mut [u8], from: usize, to: usize) -> u32 {
-        code(change(state, from, to, 1, 7).and_then(|mut parts| {
+        let judged = change(state, from, to, |up| if up == [true, true] { Ok(()) } else { Err(7) });
+        code(judged.and_then(|mut parts| {
             if parts.lengths[from * parts.n + to] == 0 {
                 return Err(8);
             }

@@ -19,17 +19,11 @@ pub fn sound(parts: &Parts) -> bool {
     links(parts) && (0..parts.n).all(|u| routes(parts, u)) && (0..parts.n).all(|u| queues(parts, u))
 }
 
+/// Each end is up or down, and no node has a link to itself. The two ends of a link may differ.
 fn links(parts: &Parts) -> bool {
     let n = parts.n;
-    let mut wrong = 0;
-    for a in 0..n {
-        wrong |= parts.links[a * n + a];
-        for b in 0..a {
-            let (there, back) = (parts.links[a * n + b], parts.links[b * n + a]);
-            wrong |= there & !1 | there ^ back;
-        }
-    }
-    wrong == 0
+    let diagonal = (0..n).fold(0, |wrong, a| wrong | parts.links[a * n + a]);
+    parts.links.iter().fold(diagonal, |wrong, &end| wrong | end & !1) == 0
 }
 
 /// Every byte is the one given.
@@ -42,7 +36,7 @@ fn zeros_end(bytes: &[u8], from: usize) -> usize {
     bytes[from..].iter().position(|&byte| byte != 0).map_or(bytes.len(), |more| from + more)
 }
 
-/// The views of u are in range, n on down links, and give u's distances and downstreams.
+/// The views of u are in range, n where u's end is down, and give u's distances and downstreams.
 fn routes(parts: &Parts, u: usize) -> bool {
     let n = parts.n;
     let most = n as u8;
@@ -79,11 +73,14 @@ fn routes(parts: &Parts, u: usize) -> bool {
     wrong == 0
 }
 
-/// The queues that u sends on: nothing stands where nothing waits, nothing waits on down links, and the receivers know
-/// u's distances but for what waits.
+/// The queues that u sends on: nothing stands where nothing waits, nothing waits but where both ends are up, and the
+/// receivers there know u's distances but for what waits.
 fn queues(parts: &Parts, u: usize) -> bool {
     let n = parts.n;
-    let links = row(parts.links, n, u);
+    let mut whole = [0; 40];
+    for (w, whole) in whole[..n].iter_mut().enumerate() {
+        *whole = parts.links[u * n + w] & parts.links[w * n + u];
+    }
     let lengths = row(parts.lengths, n, u);
     let distances = row(parts.distances, n, u);
     let destinations = &parts.destinations[u * n * n..][..n * n];
@@ -100,12 +97,12 @@ fn queues(parts: &Parts, u: usize) -> bool {
         if !all_are(&destinations[w * n..held * n], 0) || !all_are(&values[w * n..held * n], 0) {
             return false;
         }
-        if !(w..held).all(|w| links[w] == 0 || heard(w) == distances) {
+        if !(w..held).all(|w| whole[w] == 0 || heard(w) == distances) {
             return false;
         }
         if held < n {
             let length = usize::from(lengths[held]);
-            if links[held] == 0 || length > n {
+            if whole[held] == 0 || length > n {
                 return false;
             }
             let (waiting, places) = row(destinations, n, held).split_at(length);

@@ -40,7 +40,8 @@ impl PartsMut<'_> {
         self.downstreams[u * n + v] = downstream;
         if changed {
             for w in 0..n {
-                if self.links[u * n + w] == 1 {
+                // What goes to an end that has noticed is dropped.
+                if self.links[u * n + w] == 1 && self.links[w * n + u] == 1 {
                     self.send(u, w, v as u8, distance);
                 }
             }
@@ -60,19 +61,28 @@ impl PartsMut<'_> {
         }
     }
 
-    pub fn down(&mut self, a: usize, b: usize) {
+    /// One end sees that the link is dead. The other stays up until its own notice.
+    pub fn notice(&mut self, noticing: usize, other: usize) {
         let n = self.n;
-        for (end, other) in [(a, b), (b, a)] {
-            let at = end * n + other;
-            self.links[at] = 0;
+        let (there, back) = (noticing * n + other, other * n + noticing);
+        self.links[there] = 0;
+        for at in [there, back] {
             self.lengths[at] = 0;
             row_mut(self.destinations, n, at).fill(0);
             row_mut(self.values, n, at).fill(0);
-            row_mut(self.views, n, at).fill(n as u8);
         }
-        for end in [a, b] {
-            for v in 0..n {
-                self.recompute(end, v);
+        row_mut(self.views, n, there).fill(n as u8);
+        for v in 0..n {
+            self.recompute(noticing, v);
+        }
+    }
+
+    /// Whatever notices are missing, the lower-numbered end first.
+    pub fn down(&mut self, a: usize, b: usize) {
+        let (lower, higher) = (a.min(b), a.max(b));
+        for (noticing, other) in [(lower, higher), (higher, lower)] {
+            if self.links[noticing * self.n + other] == 1 {
+                self.notice(noticing, other);
             }
         }
     }

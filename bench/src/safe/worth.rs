@@ -6,17 +6,19 @@ use super::parts::{Parts, PartsMut};
 /// How many numbers a line has.
 pub const LINE: usize = 7;
 
-/// How many lines there are: one for each pair.
-pub fn pairs(n: usize) -> usize {
-    n * (n - 1) / 2
+/// The pairs that have a line, ascending: those with just one end up have none.
+pub fn pairs(parts: &Parts) -> impl Iterator<Item = (usize, usize)> {
+    let (n, links) = (parts.n, parts.links);
+    let all = (0..n).flat_map(move |a| (a + 1..n).map(move |b| (a, b)));
+    all.filter(move |&(a, b)| links[a * n + b] == links[b * n + a])
 }
 
-/// Fills the lines, one for each pair, and leaves a copy of the state in the trial. The state is at rest, the trial has
-/// as many bytes, and there is room for all lines.
+/// Fills the lines, one for each of these pairs, and leaves a copy of the state in the trial. The state is at rest, the
+/// trial has as many bytes, and there is room for all lines.
 pub fn try_all(state: &[u8], n: usize, trial: &mut [u8], lines: &mut [i32]) {
-    let before = Parts::of(state, n).distances;
-    let pairs = (0..n).flat_map(|a| (a + 1..n).map(move |b| (a, b)));
-    for ((a, b), line) in pairs.zip(lines.chunks_exact_mut(LINE)) {
+    let parts = Parts::of(state, n);
+    let before = parts.distances;
+    for ((a, b), line) in pairs(&parts).zip(lines.chunks_exact_mut(LINE)) {
         trial.copy_from_slice(state);
         let mut parts = PartsMut::of(trial, n);
         parts.turn(a, b);

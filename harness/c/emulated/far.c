@@ -182,6 +182,11 @@ uint32_t hop_down(uint8_t *state, size_t len, size_t a, size_t b)
     return ask(DOWN, a, b, 0, written(state, len), nothing).field[0];
 }
 
+uint32_t hop_notice(uint8_t *state, size_t len, size_t noticing, size_t other)
+{
+    return ask(NOTICE, noticing, other, 0, written(state, len), nothing).field[0];
+}
+
 uint32_t hop_deliver(uint8_t *state, size_t len, size_t from, size_t to)
 {
     return ask(DELIVER, from, to, 0, written(state, len), nothing).field[0];

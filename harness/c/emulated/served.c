@@ -152,6 +152,8 @@ static turn_answer asked(const turn_call *call, const fence all[LENT])
         return one(hop_up(state, length, a, b));
     case DOWN:
         return one(hop_down(state, length, a, b));
+    case NOTICE:
+        return one(hop_notice(state, length, a, b));
     case DELIVER:
         return one(hop_deliver(state, length, a, b));
     case PASS:

@@ -20,8 +20,8 @@
 #define READY 'r'
 
 enum {
-    SIZE, MAKE, CHECK, UP, DOWN, DELIVER, PASS, RUN, ROUTE, QUEUE_LENGTH, TOTAL_QUEUED, STATUS, WRITE_EVENT, READ_EVENT,
-    WORTH, WHY
+    SIZE, MAKE, CHECK, UP, DOWN, NOTICE, DELIVER, PASS, RUN, ROUTE, QUEUE_LENGTH, TOTAL_QUEUED, STATUS, WRITE_EVENT,
+    READ_EVENT, WORTH, WHY
 };
 
 /* Which call, its numbers, and its buffers: the state or the bytes; the output, the place, the trial or the list of

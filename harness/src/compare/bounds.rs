@@ -1,18 +1,19 @@
 //! What must be true of sound states and at rest: waiting entries, true hop counts, downstreams, what links are worth,
 //! and reasons.
-//! Uses the links of a state; hop counts are found by a search that has nothing of the rule.
+//! Uses the links of a state, and the views at ends that are up alone; hop counts are found by searches that have nothing
+//! of the rule.
 
-use super::states::all_pairs;
+use super::states::{all_pairs, lone_ends};
 use crate::second::rule::{Route, State};
 use std::collections::VecDeque;
 
-/// True hop counts over up links from a node, n where there is no path.
+/// True hop counts from a node over links with both ends up, n where there is no path.
 pub fn hops(state: &State, from: usize) -> Vec<usize> {
     let mut hops = vec![state.n; state.n];
     hops[from] = 0;
     let mut wave = VecDeque::from([from]);
     while let Some(u) = wave.pop_front() {
-        for w in state.neighbours(u) {
+        for w in state.joined_to(u) {
             if hops[w] == state.n {
                 hops[w] = hops[u] + 1;
                 wave.push_back(w);
@@ -22,13 +23,43 @@ pub fn hops(state: &State, from: usize) -> Vec<usize> {
     hops
 }
 
-/// At rest: every distance is the true hop count, and every downstream is right for it.
+/// Each node's hops to a destination where ends that are up alone are believed: over links with both ends up to the
+/// destination, or to such an end and as many more as its view says. Waves go out from all of them at once; n at most.
+fn believed(state: &State, destination: usize) -> Vec<usize> {
+    let n = state.n;
+    let mut hops = vec![n; n];
+    for (u, w) in lone_ends(state) {
+        hops[u] = hops[u].min(state.views[u][w][destination] + 1);
+    }
+    hops[destination] = 0;
+    for near in 0..n {
+        for u in (0..n).filter(|&u| hops[u] == near).collect::<Vec<_>>() {
+            for w in state.joined_to(u) {
+                hops[w] = hops[w].min(near + 1);
+            }
+        }
+    }
+    hops
+}
+
+/// What the distances come to at rest, by node and destination: true hop counts, or where an end is up alone what comes
+/// of believing it.
+pub fn hops_at_rest(state: &State) -> Vec<Vec<usize>> {
+    let n = state.n;
+    if lone_ends(state).is_empty() {
+        return (0..n).map(|u| hops(state, u)).collect();
+    }
+    let believed: Vec<Vec<usize>> = (0..n).map(|v| believed(state, v)).collect();
+    (0..n).map(|u| (0..n).map(|v| believed[v][u]).collect()).collect()
+}
+
+/// At rest: every distance is that number of hops, and every downstream is right for it.
 pub fn right_at_rest(state: &State) -> Result<(), String> {
     let n = state.n;
-    let hops: Vec<Vec<usize>> = (0..n).map(|u| hops(state, u)).collect();
+    let hops = hops_at_rest(state);
     for (u, v) in all_pairs(n) {
-        // Where there is no path no neighbour is nearer.
-        let nearer = state.neighbours(u).into_iter().find(|&w| hops[w][v] + 1 == hops[u][v]);
+        let told = |w: usize| if state.links[w][u] { hops[w][v] } else { state.views[u][w][v] };
+        let nearer = state.neighbours(u).into_iter().find(|&w| hops[u][v] < n && told(w) + 1 == hops[u][v]);
         let should = Route { distance: hops[u][v], downstream: if u == v { Some(u) } else { nearer } };
         if state.route(u, v) != should {
             return Err(format!("{u} to {v} has {:?}, not {should:?}", state.route(u, v)));
@@ -86,7 +117,7 @@ fn path(state: &State, node: usize, destination: usize, list: &[usize]) -> Vec<(
     vec![
         ("the node first", list.first() == Some(&node)),
         ("the destination last", list.last() == Some(&destination)),
-        ("an up link at each step", list.windows(2).all(|step| state.links[step[0]][step[1]])),
+        ("a link with both ends up at each step", list.windows(2).all(|step| state.whole(step[0], step[1]))),
         ("the fewest hops", list.len() == hops(state, node)[destination] + 1),
         ("one hop less at each step", list.windows(2).all(|step| remaining[step[0]] == remaining[step[1]] + 1)),
         ("no instance twice", list.iter().enumerate().all(once)),
@@ -96,12 +127,12 @@ fn path(state: &State, node: usize, destination: usize, list: &[usize]) -> Vec<(
 fn set(state: &State, node: usize, destination: usize, list: &[usize]) -> Vec<(&'static str, bool)> {
     let hops = hops(state, node);
     let joined: Vec<usize> = (0..state.n).filter(|&u| hops[u] < state.n).collect();
-    let leads_inside = |&u: &usize| state.neighbours(u).iter().all(|w| list.contains(w));
+    let leads_inside = |&u: &usize| state.joined_to(u).iter().all(|w| list.contains(w));
     vec![
         ("the node inside", list.contains(&node)),
         ("the destination outside", !list.contains(&destination)),
         ("an ascending order", list.windows(2).all(|two| two[0] < two[1])),
-        ("no up link that leaves it", list.iter().all(leads_inside)),
+        ("no link with both ends up that leaves it", list.iter().all(leads_inside)),
         ("all that is joined and nothing else", list == joined),
     ]
 }

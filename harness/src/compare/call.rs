@@ -4,6 +4,7 @@
 use super::random::Random;
 use super::states::pairs;
 use crate::engine::Engine;
+use crate::second::rule::State;
 use crate::second::stored::size;
 
 /// A call on the state in a buffer, with so much room for a record, so many bytes for a trial and numbers for the lines,
@@ -14,6 +15,7 @@ pub enum Call {
     Check,
     Up { a: usize, b: usize },
     Down { a: usize, b: usize },
+    Notice { noticing: usize, other: usize },
     Deliver { from: usize, to: usize },
     Pass,
     Run { allowance: u8 },
@@ -36,15 +38,21 @@ pub fn blank(room: usize) -> Vec<u8> {
 /// A list that holds the reason of any node and destination of any state.
 pub const ANY_REASON: usize = 40;
 
-/// What the worth of a state of n nodes needs: bytes for the trial, numbers for the lines.
-pub fn needed(n: usize) -> (usize, usize) {
-    (size(n), 7 * pairs(n).len())
+/// What the worth of a state needs: bytes for the trial, and seven numbers for each pair but those with one end up.
+pub fn needed(state: &State) -> (usize, usize) {
+    let with_line = pairs(state.n).into_iter().filter(|&(a, b)| !state.one_ended(a, b));
+    (size(state.n), 7 * with_line.count())
 }
 
 impl Call {
-    /// The worth of a state of n nodes, in a trial and a list of exact size.
+    /// The worth of a state of n nodes, in a trial of exact size and a list that has room for every pair.
     pub fn worth(n: usize, seed: u64) -> Call {
-        let (trial, lines) = needed(n);
+        Call::Worth { trial: size(n), lines: 7 * pairs(n).len(), seed }
+    }
+
+    /// The worth of a state, in a trial and a list of exact size.
+    pub fn worth_of(state: &State, seed: u64) -> Call {
+        let (trial, lines) = needed(state);
         Call::Worth { trial, lines, seed }
     }
 
@@ -81,6 +89,7 @@ impl Call {
             Call::Check => number(core.check(state)),
             Call::Up { a, b } => number(core.up(state, a, b)),
             Call::Down { a, b } => number(core.down(state, a, b)),
+            Call::Notice { noticing, other } => number(core.notice(state, noticing, other)),
             Call::Deliver { from, to } => number(core.deliver(state, from, to)),
             Call::Pass => one(core.pass(state)),
             Call::Run { allowance } => {
@@ -121,6 +130,7 @@ impl Call {
         vec![
             Call::Up { a: first, b: second },
             Call::Down { a: first, b: second },
+            Call::Notice { noticing: first, other: second },
             Call::Deliver { from: first, to: second },
             Call::Route { node: first, destination: second },
             Call::QueueLength { from: first, to: second },

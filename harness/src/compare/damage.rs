@@ -1,6 +1,9 @@
-//! Damage to stored states: any bytes, and for each clause of soundness ways to break it. Uses the stored blocks.
+//! Damage to stored states: any bytes, and for each clause of soundness ways to break it. Uses the stored blocks and the
+//! rule's recompute.
 
 use super::random::Random;
+use super::states::either;
+use crate::second::rule::recomputed;
 use crate::second::sound::Clause;
 use crate::second::stored::{Blocks, NONE};
 
@@ -54,17 +57,24 @@ pub type Damage = fn(&mut Random, &mut Blocks) -> Option<Clause>;
 
 pub const DAMAGES: &[Damage] = &[
     link_byte,
-    one_sided_link,
+    lone_link_byte,
+    end_cut_off,
+    noticed_end_up,
     half_up,
     diagonal_link,
+    link_to_itself,
     distance,
     downstream,
     equal_downstream,
     view_over_n,
     down_view,
     own_view,
+    noticed_view,
+    lone_view_over_n,
+    lone_view_not_read,
     down_queue,
     own_queue,
+    lone_queue,
     length_over_n,
     same_destination_twice,
     destination_again,
@@ -76,6 +86,9 @@ pub const DAMAGES: &[Damage] = &[
     value_past,
     shorter_queue,
 ];
+
+/// Those of links with one end up.
+pub const LONE: &[Damage] = &[lone_link_byte, noticed_view, lone_view_over_n, lone_view_not_read, lone_queue];
 
 /// One of the places for which a test holds, with the link's nodes and a third number below n.
 fn place(random: &mut Random, n: u8, test: impl Fn(usize, usize, usize) -> bool) -> Option<(usize, usize, usize)> {
@@ -101,27 +114,59 @@ fn link_byte(random: &mut Random, blocks: &mut Blocks) -> Option<Clause> {
     Some(Clause::LinkIsZeroOrOne)
 }
 
-fn one_sided_link(random: &mut Random, blocks: &mut Blocks) -> Option<Clause> {
-    let (a, b, _) = place(random, blocks.n, |a, b, _| a != b)?;
-    blocks.links[a][b] ^= 1;
-    Some(Clause::LinksSymmetric)
+/// An end that is up alone, with the node at its other end and any third number.
+fn lone_end(random: &mut Random, blocks: &Blocks) -> Option<(usize, usize, usize)> {
+    place(random, blocks.n, |a, b, _| blocks.links[a][b] == 1 && blocks.links[b][a] == 0)
 }
 
-/// One byte of a down link is 1, and a queue on it holds what link up puts there: all else is as it should be,
-/// whether a reader takes the sender's byte or the receiver's for the queue.
+/// A link of which one end has noticed has another byte at either end.
+fn lone_link_byte(random: &mut Random, blocks: &mut Blocks) -> Option<Clause> {
+    let (a, b, _) = lone_end(random, blocks)?;
+    let (a, b) = either(random, (a, b));
+    blocks.links[a][b] = *random.pick(&[2, 3, 128, 129, 254, 255]);
+    Some(Clause::LinkIsZeroOrOne)
+}
+
+/// One end of a link with both ends up is down. The other node's distance to itself, which is never n, was heard there or
+/// waits.
+fn end_cut_off(random: &mut Random, blocks: &mut Blocks) -> Option<Clause> {
+    let (a, b, _) = place(random, blocks.n, |a, b, _| blocks.links[a][b] == 1 && blocks.links[b][a] == 1)?;
+    blocks.links[a][b] = 0;
+    Some(if blocks.views[a][b][b] == blocks.n { Clause::OneEndedQueueEmpty } else { Clause::DownViewIsN })
+}
+
+/// An end that has noticed is up again, and nothing was sent.
+fn noticed_end_up(random: &mut Random, blocks: &mut Blocks) -> Option<Clause> {
+    let (a, b, _) = lone_end(random, blocks)?;
+    blocks.links[b][a] = 1;
+    Some(Clause::NotWaitingIsHeard)
+}
+
+/// One end of a down link is up, and a queue on it holds what link up puts there: all else is as it should be, whether a
+/// reader takes the sender's end or the receiver's for the queue.
 fn half_up(random: &mut Random, blocks: &mut Blocks) -> Option<Clause> {
-    let (a, b, _) = place(random, blocks.n, |a, b, _| a != b && blocks.links[a][b] == 0)?;
-    let (sender, receiver) = if random.chance(50) { (a, b) } else { (b, a) };
+    let (a, b, _) = place(random, blocks.n, |a, b, _| a != b && blocks.links[a][b] == 0 && blocks.links[b][a] == 0)?;
+    let (sender, receiver) = either(random, (a, b));
     blocks.links[a][b] = 1;
-    blocks.lengths[sender][receiver] = blocks.n;
-    blocks.destinations[sender][receiver] = (0..blocks.n).collect();
-    blocks.values[sender][receiver] = blocks.distances[sender].clone();
-    Some(Clause::LinksSymmetric)
+    all_entries(blocks, sender, receiver);
+    Some(Clause::OneEndedQueueEmpty)
 }
 
 fn diagonal_link(random: &mut Random, blocks: &mut Blocks) -> Option<Clause> {
     let (u, _, _) = place(random, blocks.n, |_, _, _| true)?;
     blocks.links[u][u] = other(random, blocks.n, 0);
+    Some(Clause::LinkDiagonalZero)
+}
+
+/// A node has a link to itself with all that a link has: what it says was heard, or waits.
+fn link_to_itself(random: &mut Random, blocks: &mut Blocks) -> Option<Clause> {
+    let (u, _, _) = place(random, blocks.n, |_, _, _| true)?;
+    blocks.links[u][u] = 1;
+    if random.chance(70) {
+        blocks.views[u][u] = blocks.distances[u].clone();
+    } else {
+        all_entries(blocks, u, u);
+    }
     Some(Clause::LinkDiagonalZero)
 }
 
@@ -166,6 +211,42 @@ fn down_view(random: &mut Random, blocks: &mut Blocks) -> Option<Clause> {
     Some(Clause::DownViewIsN)
 }
 
+/// An end that has noticed has heard something: most often what the other end says, or nothing that is nearer.
+fn noticed_view(random: &mut Random, blocks: &mut Blocks) -> Option<Clause> {
+    let (a, b, v) = lone_end(random, blocks)?;
+    let n = blocks.n;
+    blocks.views[b][a][v] = match random.below(3) {
+        0 if blocks.distances[a][v] < n => blocks.distances[a][v],
+        1 => n - 1,
+        _ => other(random, n, n),
+    };
+    Some(Clause::DownViewIsN)
+}
+
+/// A view at an end that is up alone, of a destination that another neighbour is nearer to or nobody is.
+fn lone_view_over_n(random: &mut Random, blocks: &mut Blocks) -> Option<Clause> {
+    let n = blocks.n;
+    let (u, w, v) = place(random, n, |u, w, v| {
+        blocks.links[u][w] == 1 && blocks.links[w][u] == 0 && usize::from(blocks.downstreams[u][v]) != w
+    })?;
+    blocks.views[u][w][v] = if random.chance(50) { n + 1 } else { random.between(usize::from(n) + 1, 255) as u8 };
+    Some(Clause::ViewAtMostN)
+}
+
+/// Distances and downstreams of a node as its links with both ends up give them: what it heard over another is not read.
+fn lone_view_not_read(random: &mut Random, blocks: &mut Blocks) -> Option<Clause> {
+    let n = usize::from(blocks.n);
+    let (u, _, v) = place(random, blocks.n, |u, w, v| {
+        u != v && blocks.links[w][u] == 0 && usize::from(blocks.downstreams[u][v]) == w
+    })?;
+    let whole = (0..n).filter(|&w| blocks.links[u][w] == 1 && blocks.links[w][u] == 1);
+    let route = recomputed(n, u, v, whole.map(|w| (w, usize::from(blocks.views[u][w][v]))));
+    let distance = blocks.distances[u][v];
+    blocks.distances[u][v] = route.distance as u8;
+    blocks.downstreams[u][v] = route.downstream.map_or(NONE, |w| w as u8);
+    Some(if blocks.distances[u][v] == distance { Clause::DownstreamRecomputed } else { Clause::DistanceRecomputed })
+}
+
 fn own_view(random: &mut Random, blocks: &mut Blocks) -> Option<Clause> {
     let (u, v, _) = place(random, blocks.n, |_, _, _| true)?;
     blocks.views[u][u][v] = other(random, blocks.n, blocks.n);
@@ -173,21 +254,41 @@ fn own_view(random: &mut Random, blocks: &mut Blocks) -> Option<Clause> {
 }
 
 fn down_queue(random: &mut Random, blocks: &mut Blocks) -> Option<Clause> {
-    let (w, u, v) = place(random, blocks.n, |w, u, _| w != u && blocks.links[w][u] == 0)?;
-    one_entry(blocks, w, u, v)
+    let (w, u, v) = place(random, blocks.n, |w, u, _| w != u && blocks.links[w][u] == 0 && blocks.links[u][w] == 0)?;
+    one_entry(blocks, w, u, v);
+    Some(Clause::DownQueueEmpty)
+}
+
+/// One entry or all wait for the end that has noticed, or from it.
+fn lone_queue(random: &mut Random, blocks: &mut Blocks) -> Option<Clause> {
+    let (a, b, v) = lone_end(random, blocks)?;
+    let (w, u) = either(random, (a, b));
+    if random.chance(30) {
+        all_entries(blocks, w, u);
+    } else {
+        one_entry(blocks, w, u, v);
+    }
+    Some(Clause::OneEndedQueueEmpty)
 }
 
 fn own_queue(random: &mut Random, blocks: &mut Blocks) -> Option<Clause> {
     let (u, v, _) = place(random, blocks.n, |_, _, _| true)?;
-    one_entry(blocks, u, u, v)
+    one_entry(blocks, u, u, v);
+    Some(Clause::DownQueueEmpty)
 }
 
-/// An entry as it would stand in a queue of an up link.
-fn one_entry(blocks: &mut Blocks, w: usize, u: usize, v: usize) -> Option<Clause> {
+/// An entry as it would stand in a queue of a link with both ends up.
+fn one_entry(blocks: &mut Blocks, w: usize, u: usize, v: usize) {
     blocks.lengths[w][u] = 1;
     blocks.destinations[w][u][0] = v as u8;
     blocks.values[w][u][0] = blocks.distances[w][v];
-    Some(Clause::DownQueueEmpty)
+}
+
+/// All entries, as link up puts them.
+fn all_entries(blocks: &mut Blocks, w: usize, u: usize) {
+    blocks.lengths[w][u] = blocks.n;
+    blocks.destinations[w][u] = (0..blocks.n).collect();
+    blocks.values[w][u] = blocks.distances[w].clone();
 }
 
 fn length_over_n(random: &mut Random, blocks: &mut Blocks) -> Option<Clause> {
@@ -290,7 +391,7 @@ fn other_view(random: &mut Random, blocks: &mut Blocks) -> Option<Clause> {
     let (w, u, v) = place(random, blocks.n, |w, u, v| {
         let length = usize::from(blocks.lengths[w][u]);
         let waits = blocks.destinations[w][u][..length].contains(&(v as u8));
-        blocks.links[w][u] == 1 && !waits && blocks.views[u][w][v] < blocks.n
+        blocks.links[w][u] == 1 && blocks.links[u][w] == 1 && !waits && blocks.views[u][w][v] < blocks.n
     })?;
     blocks.views[u][w][v] += 1;
     Some(Clause::NotWaitingIsHeard)

@@ -62,7 +62,7 @@ pub fn route(state: &State, node: usize, destination: usize) -> Result<(usize, u
 }
 
 /// The worth of each link of the state in a buffer: 12 where it is not at rest, then 2 for a trial or a list that is
-/// too short. Gives how many lines were written.
+/// too short for the pairs that have a line. Gives how many lines were written.
 fn worth(buffer: &[u8], trial: &mut [u8], list: &mut [i32]) -> Result<usize, Refusal> {
     let state = state_in(buffer)?;
     state.try_rest()?;
@@ -75,8 +75,8 @@ fn worth(buffer: &[u8], trial: &mut [u8], list: &mut [i32]) -> Result<usize, Ref
     Ok(lines.len())
 }
 
-/// The reason of a sound state: 4, then 12, and last 2 for a list that cannot hold all of it. Gives the kind and how
-/// many bytes were written.
+/// The reason of a sound state: 4, then 12, then 13, and last 2 for a list that cannot hold all of it. Gives the kind and
+/// how many bytes were written.
 pub fn why(state: &State, node: usize, destination: usize, list: &mut [u8]) -> Result<(usize, usize), Refusal> {
     let reason = state.try_why(node, destination)?;
     let bytes = reason.bytes();
@@ -108,6 +108,10 @@ impl Engine for Second {
 
     fn down(&self, buffer: &mut [u8], a: usize, b: usize) -> u32 {
         code(change(buffer, |state| state.try_down(a, b)))
+    }
+
+    fn notice(&self, buffer: &mut [u8], noticing: usize, other: usize) -> u32 {
+        code(change(buffer, |state| state.try_notice(noticing, other)))
     }
 
     fn deliver(&self, buffer: &mut [u8], from: usize, to: usize) -> u32 {

@@ -22,27 +22,42 @@ impl State {
         if a == b { Err(Refusal::OneNode) } else { Ok(()) }
     }
 
+    /// Where 6 stands, 13 is told too: one end is still up.
     pub fn try_up(&mut self, a: usize, b: usize) -> Judged<()> {
         self.ends(a, b)?;
-        if self.links[a][b] {
+        if self.whole(a, b) {
             return Err(Refusal::IsUp);
+        }
+        if self.one_ended(a, b) {
+            return Err(Refusal::OneEndUp);
         }
         self.up(a, b);
         Ok(())
     }
 
+    /// Down is asked in vain only where no notice is missing.
     pub fn try_down(&mut self, a: usize, b: usize) -> Judged<()> {
         self.ends(a, b)?;
-        if !self.links[a][b] {
+        if !self.links[a][b] && !self.links[b][a] {
             return Err(Refusal::IsDown);
         }
         self.down(a, b);
         Ok(())
     }
 
+    /// A notice that was given already, or that there is no link for, is 7.
+    pub fn try_notice(&mut self, noticing: usize, other: usize) -> Judged<()> {
+        self.ends(noticing, other)?;
+        if !self.links[noticing][other] {
+            return Err(Refusal::IsDown);
+        }
+        self.notice(noticing, other);
+        Ok(())
+    }
+
     pub fn try_deliver(&mut self, from: usize, to: usize) -> Judged<()> {
         self.ends(from, to)?;
-        if !self.links[from][to] {
+        if !self.whole(from, to) {
             return Err(Refusal::IsDown);
         }
         if self.queues[from][to].is_empty() {
@@ -58,7 +73,7 @@ impl State {
         Ok(self.route(node, destination))
     }
 
-    /// A queue's entries, head first: none where the link is down.
+    /// A queue's entries, head first: none where the link is down, or one end is.
     pub fn try_queue(&self, from: usize, to: usize) -> Judged<Vec<Entry>> {
         self.ends(from, to)?;
         Ok(self.queues[from][to].iter().copied().collect())
@@ -69,10 +84,17 @@ impl State {
         if self.total_queued() == 0 { Ok(()) } else { Err(Refusal::NotAtRest) }
     }
 
-    /// The reason why a node reaches a destination or does not: 4 for either number, then 12.
+    /// No link of the state has just one end up.
+    pub fn try_whole(&self) -> Judged<()> {
+        let one_ended = |u: usize| (0..self.n).any(|w| self.one_ended(u, w));
+        if (0..self.n).any(one_ended) { Err(Refusal::OneEndUp) } else { Ok(()) }
+    }
+
+    /// The reason why a node reaches a destination or does not: 4 for either number, then 12, then 13.
     pub fn try_why(&self, node: usize, destination: usize) -> Judged<Reason> {
         self.below_n(&[node, destination])?;
         self.try_rest()?;
+        self.try_whole()?;
         Ok(self.why(node, destination))
     }
 

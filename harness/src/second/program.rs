@@ -26,6 +26,7 @@ pub fn apply(state: &mut State, event: Event) -> Result<(), Refusal> {
         }
         Event::Up { a, b } => state.try_up(wide(a), wide(b)),
         Event::Down { a, b } => state.try_down(wide(a), wide(b)),
+        Event::Notice { noticing, other } => state.try_notice(wide(noticing), wide(other)),
         Event::Deliver { from, to } => state.try_deliver(wide(from), wide(to)),
         Event::Pass => {
             state.pass();

@@ -13,6 +13,7 @@ pub enum Event {
     Down { a: u16, b: u16 },
     Deliver { from: u16, to: u16 },
     Pass,
+    Notice { noticing: u16, other: u16 },
 }
 
 impl Event {
@@ -24,6 +25,7 @@ impl Event {
             17 => Some(Event::Down { a: first, b: second }),
             18 => Some(Event::Deliver { from: first, to: second }),
             19 => Some(Event::Pass),
+            20 => Some(Event::Notice { noticing: first, other: second }),
             _ => None,
         }
     }
@@ -35,6 +37,7 @@ impl Event {
             Event::Down { .. } => 17,
             Event::Deliver { .. } => 18,
             Event::Pass => 19,
+            Event::Notice { .. } => 20,
         }
     }
 
@@ -45,6 +48,7 @@ impl Event {
             Event::Up { a, b } | Event::Down { a, b } => vec![a, b],
             Event::Deliver { from, to } => vec![from, to],
             Event::Pass => vec![],
+            Event::Notice { noticing, other } => vec![noticing, other],
         }
     }
 

@@ -15,6 +15,7 @@ pub enum Refusal {
     UnknownKind = 10,
     WrongLength = 11,
     NotAtRest = 12,
+    OneEndUp = 13,
 }
 
 impl Refusal {

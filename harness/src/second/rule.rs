@@ -1,4 +1,5 @@
-//! The rule of document 01 on tables and queues. Uses std only; knows nothing of stored bytes.
+//! The rule of document 01, with 02's R-5 for its link down, on tables and queues. Uses std only; knows nothing of
+//! stored bytes.
 
 use std::collections::VecDeque;
 
@@ -19,7 +20,8 @@ pub struct Route {
     pub downstream: Option<usize>,
 }
 
-/// The whole machine. Views go by node, neighbour, destination; queues by sender, receiver.
+/// The whole machine. A link has two ends, and `links[a][b]` is a's own. Views go by node, neighbour, destination; queues
+/// by sender, receiver.
 #[derive(Clone, PartialEq, Eq, Hash, Debug)]
 pub struct State {
     pub n: usize,
@@ -30,7 +32,7 @@ pub struct State {
     pub queues: Vec<Vec<VecDeque<Entry>>>,
 }
 
-/// The route that recompute of v at u gives, from what each up neighbour of u was last heard to say of v.
+/// The route that recompute of v at u gives, from what each neighbour over an up end of u was last heard to say of v.
 /// Neighbours come in ascending order, so that the first of the nearest is the lowest-numbered.
 pub fn recomputed(n: usize, u: usize, v: usize, heard: impl Iterator<Item = (usize, usize)>) -> Route {
     if v == u {
@@ -74,9 +76,24 @@ impl State {
         state
     }
 
-    /// The nodes that u has an up link to, ascending.
+    /// The nodes to which u's own end is up, ascending; the other end may have noticed that the link is dead.
     pub fn neighbours(&self, u: usize) -> Vec<usize> {
         (0..self.n).filter(|&w| self.links[u][w]).collect()
+    }
+
+    /// Both ends are up.
+    pub fn whole(&self, a: usize, b: usize) -> bool {
+        self.links[a][b] && self.links[b][a]
+    }
+
+    /// One end has noticed, and the other is still up.
+    pub fn one_ended(&self, a: usize, b: usize) -> bool {
+        self.links[a][b] != self.links[b][a]
+    }
+
+    /// The nodes to which u has a link with both ends up, ascending.
+    pub fn joined_to(&self, u: usize) -> Vec<usize> {
+        (0..self.n).filter(|&w| self.whole(u, w)).collect()
     }
 
     /// The route that u has to v: for itself 0 and itself, with none n and no downstream.
@@ -84,7 +101,8 @@ impl State {
         Route { distance: self.distances[u][v], downstream: self.downstreams[u][v] }
     }
 
-    /// Recompute of v at u. Only a changed distance is sent, on each up link of u.
+    /// Recompute of v at u, with the views over every end of u that is up. Only a changed distance is sent, on each of
+    /// these; what goes to an end that has noticed is dropped.
     fn recompute(&mut self, u: usize, v: usize) {
         let neighbours = self.neighbours(u);
         let new = recomputed(self.n, u, v, neighbours.iter().map(|&w| (w, self.views[u][w][v])));
@@ -93,7 +111,9 @@ impl State {
         self.downstreams[u][v] = new.downstream;
         if changed {
             for w in neighbours {
-                send(&mut self.queues[u][w], Entry { destination: v, value: new.distance });
+                if self.links[w][u] {
+                    send(&mut self.queues[u][w], Entry { destination: v, value: new.distance });
+                }
             }
         }
     }
@@ -109,16 +129,24 @@ impl State {
         }
     }
 
-    /// Link down. Both ends see it at one moment, so both forget before either recomputes.
-    pub fn down(&mut self, a: usize, b: usize) {
-        for (end, other) in [(a, b), (b, a)] {
-            self.links[end][other] = false;
-            self.queues[end][other].clear();
-            self.views[end][other].fill(self.n);
+    /// One end's notice that a link is dead: both queues are emptied, and this end forgets what it heard over the link and
+    /// recomputes. The other end stays as it is until its own notice.
+    pub fn notice(&mut self, noticing: usize, other: usize) {
+        self.links[noticing][other] = false;
+        self.queues[noticing][other].clear();
+        self.queues[other][noticing].clear();
+        self.views[noticing][other].fill(self.n);
+        for v in 0..self.n {
+            self.recompute(noticing, v);
         }
-        for end in [a, b] {
-            for v in 0..self.n {
-                self.recompute(end, v);
+    }
+
+    /// Link down: whatever notices are missing, that of the lower-numbered end first.
+    pub fn down(&mut self, a: usize, b: usize) {
+        let (lower, higher) = (a.min(b), a.max(b));
+        for (noticing, other) in [(lower, higher), (higher, lower)] {
+            if self.links[noticing][other] {
+                self.notice(noticing, other);
             }
         }
     }

@@ -1,20 +1,21 @@
-//! Soundness, clause by clause in document 01's order, on blocks of any bytes. Uses the rule's recompute.
+//! Soundness, clause by clause in document 01's order and as 02's R-5 restates it, on blocks of any bytes. Uses the rule's
+//! recompute.
 
 use super::rule::recomputed;
 use super::stored::{Blocks, NONE};
 use std::collections::BTreeSet;
 
-/// What document 01 asks of a sound state, each demand by its own name.
+/// What the documents ask of a sound state, each demand by its own name. R-5 has links whose ends differ.
 #[derive(Clone, Copy, PartialEq, Eq, PartialOrd, Ord, Debug)]
 pub enum Clause {
     LinkIsZeroOrOne,
-    LinksSymmetric,
     LinkDiagonalZero,
     DistanceRecomputed,
     DownstreamRecomputed,
     ViewAtMostN,
     DownViewIsN,
     DownQueueEmpty,
+    OneEndedQueueEmpty,
     LengthAtMostN,
     DestinationsDiffer,
     DestinationBelowN,
@@ -23,7 +24,7 @@ pub enum Clause {
     PlacesPastZero,
 }
 
-/// The clauses that do not hold. Up means that the link byte is exactly 1 and the two nodes differ.
+/// The clauses that do not hold. An end is up where its byte is exactly 1 and the two nodes differ.
 pub fn broken(blocks: &Blocks) -> BTreeSet<Clause> {
     let n = usize::from(blocks.n);
     let up = |u: usize, w: usize| u != w && blocks.links[u][w] == 1;
@@ -37,7 +38,6 @@ pub fn broken(blocks: &Blocks) -> BTreeSet<Clause> {
         demand(Clause::LinkDiagonalZero, blocks.links[u][u] == 0);
         for w in 0..n {
             demand(Clause::LinkIsZeroOrOne, blocks.links[u][w] <= 1);
-            demand(Clause::LinksSymmetric, blocks.links[u][w] == blocks.links[w][u]);
         }
         for v in 0..n {
             let heard = (0..n).filter(|&w| up(u, w)).map(|w| (w, usize::from(blocks.views[u][w][v])));
@@ -57,11 +57,13 @@ pub fn broken(blocks: &Blocks) -> BTreeSet<Clause> {
         for receiver in 0..n {
             let length = usize::from(blocks.lengths[sender][receiver]);
             demand(Clause::LengthAtMostN, length <= n);
-            demand(Clause::DownQueueEmpty, up(sender, receiver) || length == 0);
+            let ends_up = [up(sender, receiver), up(receiver, sender)].into_iter().filter(|&up| up).count();
+            demand(Clause::DownQueueEmpty, ends_up != 0 || length == 0);
+            demand(Clause::OneEndedQueueEmpty, ends_up != 1 || length == 0);
             let (waiting, past) = blocks.destinations[sender][receiver].split_at(length.min(n));
             let (values, values_past) = blocks.values[sender][receiver].split_at(length.min(n));
             demand(Clause::PlacesPastZero, past.iter().chain(values_past).all(|&byte| byte == 0));
-            if !up(sender, receiver) {
+            if ends_up != 2 {
                 continue;
             }
             for (place, &v) in waiting.iter().enumerate() {

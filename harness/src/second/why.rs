@@ -34,25 +34,27 @@ impl Reason {
 }
 
 impl State {
-    /// The reason, in a state at rest.
+    /// The reason, in a state at rest whose links all have both ends up or both down.
     pub fn why(&self, node: usize, destination: usize) -> Reason {
         let joined = self.joined(node);
         if joined.contains(&destination) { Reason::Path(self.path(node, destination)) } else { Reason::Set(joined) }
     }
 
-    /// The instances joined to a node: itself, and whatever an up link from one of them leads to, until none leaves.
+    /// The instances joined to a node: itself, and whatever a link with both ends up leads to from one of them, until none
+    /// leaves.
     fn joined(&self, node: usize) -> BTreeSet<usize> {
         let mut joined = BTreeSet::new();
         let mut found = vec![node];
         while let Some(u) = found.pop() {
             if joined.insert(u) {
-                found.extend(self.neighbours(u));
+                found.extend(self.joined_to(u));
             }
         }
         joined
     }
 
-    /// The path along the downstreams. Each step goes over an up link, and the remaining hop count falls by one.
+    /// The path along the downstreams. Each step goes over a link with both ends up, and the remaining hop count falls by
+    /// one.
     fn path(&self, node: usize, destination: usize) -> Vec<usize> {
         let mut path = vec![node];
         let mut at = node;
@@ -60,7 +62,7 @@ impl State {
             let here = self.route(at, destination);
             let next = here.downstream.expect("where there is a route there is a downstream");
             let remaining = self.route(next, destination).distance;
-            assert!(self.links[at][next] && remaining + 1 == here.distance, "a step of a path at rest");
+            assert!(self.whole(at, next) && remaining + 1 == here.distance, "a step of a path at rest");
             path.push(next);
             at = next;
         }

@@ -1,4 +1,5 @@
-//! What each link is worth, document 02's R-1: a trial for every pair, its tables beside the state's.
+//! What each link is worth, document 02's R-1: a trial for every pair that is up or down at both ends, its tables beside
+//! the state's.
 //! Uses the rule; each trial is a copy of its own, and nothing is kept from one to the next.
 
 use super::rule::State;
@@ -32,12 +33,13 @@ impl Line {
 }
 
 impl State {
-    /// All pairs a < b, ascending by a and then by b.
+    /// The pairs a < b that have a line, ascending by a and then by b: those with just one end up are left out.
     pub fn pairs(&self) -> Vec<(usize, usize)> {
-        (0..self.n).flat_map(|a| (a + 1..self.n).map(move |b| (a, b))).collect()
+        let all = (0..self.n).flat_map(|a| (a + 1..self.n).map(move |b| (a, b)));
+        all.filter(|&(a, b)| !self.one_ended(a, b)).collect()
     }
 
-    /// A line for every pair of a state at rest.
+    /// A line for every such pair of a state at rest.
     pub fn worth(&self) -> Vec<Line> {
         self.pairs().into_iter().map(|(a, b)| self.trial(a, b)).collect()
     }

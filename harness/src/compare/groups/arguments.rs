@@ -4,7 +4,7 @@ use crate::compare::call::Call;
 use crate::compare::damage;
 use crate::compare::ground::Ground;
 use crate::compare::random::Random;
-use crate::compare::states;
+use crate::compare::states::{self, at_rest_with_ends, pairs};
 use crate::second::stored::{Blocks, stored};
 
 /// Numbers at the edges of n and of every width that a caller's number could be cut to.
@@ -15,21 +15,23 @@ pub fn classes(n: usize) -> Vec<usize> {
     classes
 }
 
-/// All pairs of them, on a sound state of each small node count.
+/// All pairs of them, on a sound state of each small node count, and on one in which of each link one end is up.
 pub fn every_pair(ground: &mut Ground) -> Result<u64, String> {
     let mut count = 0;
     for n in 1..=4 {
         let random = &mut Random::of_case(0, "every-pair", n as u64);
-        let bytes = stored(&states::any(random, n));
-        let classes = classes(n);
-        for &first in &classes {
-            let mut calls = vec![Call::Make { n: first }];
-            calls.extend([13, 14].map(|room| Call::Status { node: first, room }));
-            calls.extend(classes.iter().flat_map(|&second| Call::with_two(first, second)));
-            for call in &calls {
-                ground.agree(&bytes, call)?;
+        for state in [states::any(random, n), at_rest_with_ends(n, &pairs(n))] {
+            let bytes = stored(&state);
+            let classes = classes(n);
+            for &first in &classes {
+                let mut calls = vec![Call::Make { n: first }];
+                calls.extend([13, 14].map(|room| Call::Status { node: first, room }));
+                calls.extend(classes.iter().flat_map(|&second| Call::with_two(first, second)));
+                for call in &calls {
+                    ground.agree(&bytes, call)?;
+                }
+                count += calls.len() as u64;
             }
-            count += calls.len() as u64;
         }
     }
     Ok(count)

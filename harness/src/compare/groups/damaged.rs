@@ -2,7 +2,7 @@
 
 use super::runs::behind;
 use crate::compare::call::Call;
-use crate::compare::damage::{self, DAMAGES};
+use crate::compare::damage::{self, DAMAGES, LONE};
 use crate::compare::ground::{Ground, outcome};
 use crate::compare::random::Random;
 use crate::compare::states;
@@ -11,7 +11,7 @@ use crate::second::sound::broken;
 use crate::second::stored::{Blocks, size, stored};
 
 /// The check, and two more calls: each of them judges the state for itself. Where the check refuses it, so do a route, a
-/// queue length and the total: for these the second implementation need not read it again.
+/// queue length, the total and a notice: for these the second implementation need not read it again.
 pub fn judged(ground: &mut Ground, random: &mut Random, buffer: &[u8]) -> Result<(), String> {
     let should = outcome(buffer, &Call::Check);
     ground.hold(buffer, &Call::Check, &should)?;
@@ -21,6 +21,7 @@ pub fn judged(ground: &mut Ground, random: &mut Random, buffer: &[u8]) -> Result
         ground.hold(buffer, &Call::Route { node: x, destination: y }, &should)?;
         ground.hold(buffer, &Call::QueueLength { from: x, to: y }, &should)?;
         ground.hold(buffer, &Call::TotalQueued, &should)?;
+        ground.hold(buffer, &Call::Notice { noticing: x, other: y }, &should)?;
     }
     let calls = Call::all(x, y);
     for _ in 0..2 {
@@ -81,6 +82,25 @@ pub fn random_bytes(ground: &mut Ground, random: &mut Random) -> Result<(), Stri
         buffer[0] = n as u8;
     }
     judged(ground, random, &buffer)
+}
+
+/// Of each node count a site with many ends up alone, and every way to break what is asked of them.
+pub fn lone_ends(ground: &mut Ground) -> Result<u64, String> {
+    let mut count = 0;
+    for n in 2..=40 {
+        let random = &mut Random::of_case(0, "damaged-ends", n as u64);
+        let whole = Blocks::of(&states::with_lone_ends(random, n));
+        for damage in LONE.iter().chain(LONE) {
+            let mut blocks = whole.clone();
+            let Some(clause) = damage(random, &mut blocks) else { continue };
+            if !broken(&blocks).contains(&clause) {
+                return Err(format!("n = {n}: a damage did not break {clause:?}"));
+            }
+            ground.refuse(&blocks.write(), &Call::Check, 3).map_err(|what| format!("n = {n}: {what}"))?;
+            count += 1;
+        }
+    }
+    Ok(count)
 }
 
 pub fn clauses(ground: &mut Ground, random: &mut Random) -> Result<(), String> {

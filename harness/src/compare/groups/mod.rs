@@ -4,6 +4,7 @@ mod arguments;
 mod damaged;
 mod fixed;
 mod lengths;
+mod notices;
 mod order;
 mod program;
 mod queues;
@@ -64,8 +65,17 @@ pub const GROUPS: &[Group] = &[
         queues::places,
     ),
     whole("worth-every-set", "what each link is worth, for every set of links of up to five nodes", worth::every_set),
+    whole(
+        "worth-every-end",
+        "the same where one end of a link is up, every set of ends of up to four nodes",
+        worth::every_end,
+    ),
     whole("worth-every-room", "the same of small sites, in trials and lists of every length", worth::every_room),
-    whole("worth-node-counts", "the same of a site of each n from 1 to 24, of 32 and of 40", worth::node_counts),
+    whole(
+        "worth-node-counts",
+        "the same of sites of each n from 1 to 24, of 32 and of 40, with ends up alone and without",
+        worth::node_counts,
+    ),
     whole("worth-one-waits", "the same asked where one entry waits, in each queue in turn", worth::one_waits),
     whole("why-every-set", "the reason of every pair, for every set of links of up to five nodes", why::every_set),
     whole("why-every-room", "the same of small sites, in lists of every length and far longer ones", why::every_room),
@@ -75,8 +85,20 @@ pub const GROUPS: &[Group] = &[
         why::node_counts,
     ),
     whole("why-one-waits", "the same asked where one entry waits, in each queue in turn", why::one_waits),
+    whole(
+        "why-one-end",
+        "the same asked where one end of a link is up, for each n, of 40 nodes each pair",
+        why::one_end,
+    ),
     whole("route-node-counts", "hops and direction in lines of each n to 40, before and at rest", runs::routes),
     whole("refused-order", "refusals of a reason and of a route, every two or more of them together", why::order),
+    whole(
+        "notice-every-end",
+        "every set of ends of up to four nodes, every event of two nodes in it",
+        notices::every_end,
+    ),
+    whole("notice-refusals", "what is refused of a link by which of its ends are up, in a table", notices::refusals),
+    whole("damaged-ends", "for each n every way to break what is asked of ends up alone", damaged::lone_ends),
     whole("kinds", "every event kind and many others, written into rooms of every length", records::kinds),
     whole("fronts", "every front of a record, cut at every byte", records::fronts),
     cases("make", 2, "node counts and buffers of every class, any bytes before it", lengths::make),
@@ -86,6 +108,15 @@ pub const GROUPS: &[Group] = &[
     cases("status", 2, "status records into rooms of every length", runs::status),
     cases("to-rest", 4, "passes to rest, with the bounds and the true hop counts", order::to_rest),
     cases("any-order", 4, "passes whose deliveries come in any order, with the same bounds", order::any_order),
+    cases("notice", 4, "notices at any end, and what they leave as it was", notices::notice),
+    cases(
+        "notice-orders",
+        4,
+        "both ends' notices in either order and link down, after one and after none",
+        notices::orders,
+    ),
+    cases("down-as-01", 3, "link down where both ends are up, held to 01's rule for it", notices::as_01),
+    cases("rest-one-ended", 3, "rest with ends up alone, and after the notices that were missing", notices::to_rest),
     cases("arguments", 4, "every call with every class of number", arguments::arguments),
     cases("lengths", 3, "buffers that are empty, short, exact and long", lengths::lengths),
     cases("damaged-bytes", 5, "sound states with a few bytes changed", damaged::bytes),

@@ -3,6 +3,7 @@
 use super::records;
 use crate::compare::ground::{Ground, hex};
 use crate::compare::random::Random;
+use crate::compare::states::{all_pairs, filled};
 use crate::second::program::{INPUT, apply, text};
 use crate::second::records::Event;
 use crate::second::rule::State;
@@ -41,8 +42,18 @@ fn next(random: &mut Random, state: &State, most: u16, k: usize) -> Event {
     match random.below(100) {
         0..35 => Event::Up { a, b },
         35..42 => Event::Down { a, b },
-        42..85 => {
-            let filled = crate::compare::states::filled(state);
+        42..52 => {
+            let up: Vec<(usize, usize)> = all_pairs(state.n).into_iter().filter(|&(a, b)| state.links[a][b]).collect();
+            match up.is_empty() || random.chance(20) {
+                true => Event::Notice { noticing: a, other: b },
+                false => {
+                    let &(noticing, other) = random.pick(&up);
+                    Event::Notice { noticing: noticing as u16, other: other as u16 }
+                }
+            }
+        }
+        52..87 => {
+            let filled = filled(state);
             match filled.is_empty() || random.chance(10) {
                 true => Event::Deliver { from: a, to: b },
                 false => {
@@ -51,7 +62,7 @@ fn next(random: &mut Random, state: &State, most: u16, k: usize) -> Event {
                 }
             }
         }
-        85..96 => Event::Pass,
+        87..96 => Event::Pass,
         _ => records::event(random),
     }
 }

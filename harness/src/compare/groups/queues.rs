@@ -6,7 +6,7 @@ use crate::compare::call::Call;
 use crate::compare::damage::{destination_again, number_like_destination};
 use crate::compare::ground::{Ground, Outcome};
 use crate::compare::random::Random;
-use crate::compare::states::{self, at_rest, filled, pairs};
+use crate::compare::states::{self, at_rest, filled, one_ended_site, pairs, site};
 use crate::second::calls::state_in;
 use crate::second::refusal::Refusal;
 use crate::second::rule::{Entry, State};
@@ -205,17 +205,16 @@ pub fn places(ground: &mut Ground) -> Result<u64, String> {
     Ok(count)
 }
 
-/// A site at rest where entries wait that tell nothing new: in all queues, in those of one sender or of one receiver, or
-/// in some; all destinations, or some; the same ones in each queue, or others.
+/// A site at rest, at times with links of which one end is up, where entries wait that tell nothing new: in all queues, in
+/// those of one sender or of one receiver, or in some; all destinations, or some; the same ones in each queue, or others.
 fn told_again(random: &mut Random, n: usize) -> State {
-    let links = states::links(random, n);
-    let mut state = at_rest(n, &links);
+    let mut state = if random.chance(30) { one_ended_site(random, n) } else { site(random, n) };
     let (node, which) = (random.below(n), random.below(4));
     let share = *random.pick(&[5, 20, 50, 90, 100, 100]);
     let some = |random: &mut Random| (0..n).filter(|_| random.chance(share)).collect::<Vec<usize>>();
     let same = random.chance(50).then(|| some(random));
     for from in 0..n {
-        for to in state.neighbours(from) {
+        for to in state.joined_to(from) {
             let taken = match which {
                 0 => true,
                 1 => from == node,

@@ -4,7 +4,7 @@ use crate::compare::ground::{Ground, hex};
 use crate::compare::random::Random;
 use crate::second::records::{Event, record};
 
-const KINDS: [u16; 5] = [15, 16, 17, 18, 19];
+const KINDS: [u16; 6] = [15, 16, 17, 18, 19, 20];
 
 fn number(random: &mut Random) -> u16 {
     match random.below(4) {
@@ -20,7 +20,8 @@ pub fn event(random: &mut Random) -> Event {
 }
 
 pub fn kinds(ground: &mut Ground) -> Result<u64, String> {
-    let far = [255, 256, 271, 65_535, 65_551, 65_552, (1 << 31) + 15, u32::MAX - 1, u32::MAX];
+    let far =
+        [255, 256, 271, 276, 65_535, 65_551, 65_552, 65_556, (1 << 31) + 15, (1 << 31) + 20, u32::MAX - 1, u32::MAX];
     let mut count = 0;
     for kind in (0..40).chain(far) {
         for room in 0..12 {
@@ -38,7 +39,7 @@ pub fn fronts(ground: &mut Ground) -> Result<u64, String> {
     let lengths = (0..12_u16).chain([256, 258, 260, 262, 512, 1024, 1536, 65_534, 65_535]);
     let mut count = 0;
     for length in lengths {
-        for kind in (0..30_u16).chain([255, 256, 271, 3840, 4096, 4864, 65_535]) {
+        for kind in (0..30_u16).chain([255, 256, 271, 276, 3840, 4096, 4864, 5120, 65_535]) {
             let whole = [length, kind, 0x0201, 0x0403, 0x0605].map(u16::to_le_bytes).concat();
             for end in 0..=whole.len() {
                 ground.agree_read(&whole[..end], 0)?;
@@ -74,7 +75,7 @@ pub fn script(random: &mut Random) -> Vec<u8> {
                 let count = random.below(6);
                 bytes.extend(random.bytes(count));
             }
-            1 => bytes.extend(record(*random.pick(&[0, 1, 14, 20, 255, 271, 3840]), &[1, 2])),
+            1 => bytes.extend(record(*random.pick(&[0, 1, 14, 21, 255, 276, 3840]), &[1, 2])),
             2 => {
                 let length = *random.pick(&[0_u16, 1, 2, 3, 4, 5, 6, 7, 8, 256, 260, 65_535]);
                 bytes.extend([length, *random.pick(&KINDS), 1, 2].map(u16::to_le_bytes).concat());

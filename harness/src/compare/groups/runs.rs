@@ -59,12 +59,13 @@ pub fn constructed(ground: &mut Ground, random: &mut Random) -> Result<(), Strin
     follow_events(ground, random, state, &behind)
 }
 
-/// One state that events reach and one that none do for each node count, every call in it.
+/// One state that events reach, one that none do and a site with ends up alone for each node count, every call in it.
 pub fn every_node_count(ground: &mut Ground) -> Result<u64, String> {
     let mut count = 0;
     for n in 1..=40 {
         let random = &mut Random::of_case(0, "every-node-count", n as u64);
-        for state in [states::reached(random, n), states::constructed(random, n)] {
+        let one_ended = states::one_ended_site(random, n);
+        for state in [states::reached(random, n), states::constructed(random, n), one_ended] {
             let bytes = stored(&state);
             let (a, b) = (random.below(n), random.below(n));
             let mut calls = Call::all(a, b);

@@ -3,23 +3,27 @@
 use crate::compare::call::{Call, needed};
 use crate::compare::ground::Ground;
 use crate::compare::random::Random;
-use crate::compare::states::{self, Event, apply, filled, pairs};
+use crate::compare::states::{self, Event, all_pairs, apply, at_rest_with_ends, filled, pairs};
 use crate::second::rule::State;
 use crate::second::stored::stored;
 use std::collections::HashSet;
 
-/// The events that change a state and are not refused.
-fn events(state: &State) -> Vec<Event> {
+/// The events that change a state and are not refused, with notices of one end or without.
+fn events(state: &State, with_notices: bool) -> Vec<Event> {
+    let up = |a: usize, b: usize| state.links[a][b] || state.links[b][a];
     let links = pairs(state.n).into_iter();
-    let links = links.map(|(a, b)| if state.links[a][b] { Event::Down(a, b) } else { Event::Up(a, b) });
+    let links = links.map(|(a, b)| if up(a, b) { Event::Down(a, b) } else { Event::Up(a, b) });
+    let ends = all_pairs(state.n).into_iter().filter(|&(a, b)| with_notices && state.links[a][b]);
+    let notices = ends.map(|(noticing, other)| Event::Notice(noticing, other));
     let queues = filled(state).into_iter().map(|(from, to)| Event::Deliver(from, to));
-    links.chain(queues).chain([Event::Pass]).collect()
+    links.chain(notices).chain(queues).chain([Event::Pass]).collect()
 }
 
 pub fn call(event: Event) -> Call {
     match event {
         Event::Up(a, b) => Call::Up { a, b },
         Event::Down(a, b) => Call::Down { a, b },
+        Event::Notice(noticing, other) => Call::Notice { noticing, other },
         Event::Deliver(from, to) => Call::Deliver { from, to },
         Event::Pass => Call::Pass,
         Event::Run(allowance) => Call::Run { allowance },
@@ -31,6 +35,7 @@ fn through(
     ground: &mut Ground,
     n: usize,
     depth: usize,
+    with_notices: bool,
     mut also: impl FnMut(&mut Ground, &State) -> Result<u64, String>,
 ) -> Result<u64, String> {
     let mut seen = HashSet::from([State::fresh(n)]);
@@ -39,7 +44,7 @@ fn through(
     for _ in 0..depth {
         let mut next = Vec::new();
         for state in &wave {
-            for event in events(state) {
+            for event in events(state, with_notices) {
                 let mut after = state.clone();
                 let answers = apply(&mut after, event);
                 ground.follow(&call(event), answers, state, &after, &[])?;
@@ -63,9 +68,10 @@ fn every_call(ground: &mut Ground, state: &State) -> Result<u64, String> {
     let bytes = stored(state);
     let mut calls = vec![Call::Check, Call::Pass, Call::TotalQueued];
     calls.extend([0, 1, 2, 3, 4, 255].map(|allowance| Call::Run { allowance }));
-    let (trial, lines) = needed(state.n);
+    let (trial, lines) = needed(state);
     for (no_trial, no_line) in [(0, 0), (1, 0), (0, 1), (trial, 0), (0, lines)] {
-        calls.push(Call::Worth { trial: trial - no_trial, lines: lines - no_line, seed: calls.len() as u64 });
+        let lines = lines.saturating_sub(no_line);
+        calls.push(Call::Worth { trial: trial - no_trial, lines, seed: calls.len() as u64 });
     }
     for first in 0..=state.n {
         calls.extend([0, 13, 14, 15].map(|room| Call::Status { node: first, room }));
@@ -81,13 +87,13 @@ fn every_call(ground: &mut Ground, state: &State) -> Result<u64, String> {
 }
 
 pub fn two_nodes(ground: &mut Ground) -> Result<u64, String> {
-    through(ground, 2, usize::MAX, every_call)
+    through(ground, 2, usize::MAX, true, every_call)
 }
 
 /// Every byte of every such state of two nodes, and of a few of three, with every other value in its place.
 pub fn every_byte(ground: &mut Ground) -> Result<u64, String> {
     let mut states = Vec::new();
-    through(ground, 2, usize::MAX, |_, state| {
+    through(ground, 2, usize::MAX, true, |_, state| {
         states.push(state.clone());
         Ok(0)
     })?;
@@ -114,20 +120,25 @@ pub fn every_length(ground: &mut Ground) -> Result<u64, String> {
     let mut count = 0;
     for n in 1..=3 {
         let random = &mut Random::of_case(0, "every-length", n as u64);
-        let bytes = [stored(&states::any(random, n)), random.bytes(3)].concat();
-        for length in 0..=bytes.len() {
-            for call in Call::all(0, n - 1) {
-                ground.agree(&bytes[..length], &call)?;
-                count += 1;
+        // Of each link in the second the end at the lower number is up.
+        for state in [states::any(random, n), at_rest_with_ends(n, &pairs(n))] {
+            let bytes = [stored(&state), random.bytes(3)].concat();
+            for length in 0..=bytes.len() {
+                for call in Call::all(0, n - 1) {
+                    ground.agree(&bytes[..length], &call)?;
+                    count += 1;
+                }
             }
         }
     }
     Ok(count)
 }
 
-/// How many events from fresh the states of three nodes are gone through.
+/// How many events from fresh the states of three nodes are gone through, if both ends always notice together and if not.
 const DEPTH: usize = 10;
+const DEPTH_WITH_NOTICES: usize = 8;
 
 pub fn three_nodes(ground: &mut Ground) -> Result<u64, String> {
-    through(ground, 3, DEPTH, |_, _| Ok(0))
+    let together = through(ground, 3, DEPTH, false, |_, _| Ok(0))?;
+    Ok(together + through(ground, 3, DEPTH_WITH_NOTICES, true, |_, _| Ok(0))?)
 }

@@ -1,5 +1,5 @@
-//! Why a node reaches a destination or does not: sites at rest, states that are not, numbers of every class, lists of
-//! every length. Each reason is held to the links as well; routes are asked beside it. Uses the rule, the bounds and the
+//! Why a node reaches a destination or does not: sites at rest, states that are not, links of which one end is up, numbers
+//! of every class, lists of every length. Each reason is held to the links as well; routes are asked beside it. Uses the rule, the bounds and the
 //! ground.
 
 use super::arguments::classes;
@@ -9,7 +9,10 @@ use crate::compare::bounds;
 use crate::compare::call::{ANY_REASON, Call};
 use crate::compare::ground::{Ground, MOST_BYTES, Outcome};
 use crate::compare::random::Random;
-use crate::compare::states::{self, all_pairs, almost_at_rest, at_rest, pairs, site};
+use crate::compare::states::{
+    self, all_pairs, almost_at_rest, at_rest, at_rest_with_ends, either, lone_ends, one_ended_site, pairs,
+    sets_of_ends, site,
+};
 use crate::engine::Way;
 use crate::second::calls::{two, why};
 use crate::second::rule::State;
@@ -153,6 +156,52 @@ pub fn one_waits(ground: &mut Ground) -> Result<u64, String> {
     Ok(count)
 }
 
+/// Sites at rest where one end is up alone: of every set of ends of up to three nodes, and each end in turn of some larger
+/// sites. Asked of nodes next to it and far from it, and of a node itself, in lists that would do and in none. And of each
+/// node count a single link with one end up, at a few pairs, and at every pair of 40 nodes.
+pub fn one_end(ground: &mut Ground) -> Result<u64, String> {
+    let random = &mut Random::of_case(0, "why-one-end", 0);
+    let mut states: Vec<State> =
+        (2..=3).flat_map(|n| sets_of_ends(n).map(move |set| at_rest_with_ends(n, &set))).collect();
+    states.retain(|state| !lone_ends(state).is_empty());
+    for n in [4, 5, 40] {
+        let whole = at_rest(n, &pairs(n));
+        // Of a large site some nodes.
+        let nodes: Vec<usize> = if n == 40 { vec![0, 1, 20, 39] } else { (0..n).collect() };
+        let ends = nodes.iter().flat_map(|&a| nodes.iter().map(move |&b| (a, b)));
+        for (noticing, other) in ends.filter(|(a, b)| a != b) {
+            let mut state = whole.clone();
+            state.notice(noticing, other);
+            state.run(255);
+            states.push(state);
+        }
+    }
+    let mut count = 0;
+    for state in states {
+        let n = state.n;
+        let bytes = stored(&state);
+        let some: Vec<Pair> = [(0, 0), (0, n - 1), (n - 1, 0), (random.below(n), random.below(n))].into();
+        for pair in if n <= 5 { all_pairs(n) } else { some } {
+            for room in [0, *random.pick(&[1, n, ANY_REASON])] {
+                ground.refuse(&bytes, &in_room(random, pair, room), 13)?;
+                count += 1;
+            }
+        }
+    }
+    for n in 6..=40 {
+        let mut links = random.shuffled(pairs(n));
+        links.truncate(if n < 40 { 5 } else { links.len() });
+        for link in links {
+            let state = at_rest_with_ends(n, &[either(random, link)]);
+            let pair = (random.below(n), random.below(n));
+            let call = in_room(random, pair, ANY_REASON);
+            ground.refuse(&stored(&state), &call, 13).map_err(|what| format!("n = {n}, {link:?}: {what}"))?;
+            count += 1;
+        }
+    }
+    Ok(count)
+}
+
 /// Buffers that are refused as such, with their numbers: empty, with a first byte that is no node count, cut, not sound.
 /// All but the first are a state's where entries wait.
 fn refused_states(busy: &State) -> Vec<(Vec<u8>, u32)> {
@@ -171,7 +220,7 @@ fn no_pairs(random: &mut Random, n: usize) -> Vec<Pair> {
 }
 
 /// Every state, pair and list that can be at fault, together with every other: what is told is the first of them in
-/// their order. The same of a route, which has no list and is answered where entries wait too.
+/// their order. The same of a route, which has no list and is answered where entries wait too, and where an end is up alone.
 pub fn order(ground: &mut Ground) -> Result<u64, String> {
     let random = &mut Random::of_case(0, "refused-order", 0);
     let mut count = 0;
@@ -181,6 +230,11 @@ pub fn order(ground: &mut Ground) -> Result<u64, String> {
         let mut busy = resting.clone();
         busy.down(0, 1);
         busy.up(0, 1);
+        let mut noticed = at_rest(n, &pairs(n));
+        noticed.notice(0, 1);
+        let busy_noticed = stored(&noticed);
+        noticed.run(255);
+        let noticed = stored(&noticed);
         let (at_rest, not_at_rest, refused) = (stored(&resting), stored(&busy), refused_states(&busy));
         let nodes = all_pairs(n).into_iter().map(|pair| (pair, true, long(&resting, pair)));
         let others = no_pairs(random, n).into_iter().map(|pair| (pair, false, 1));
@@ -192,20 +246,24 @@ pub fn order(ground: &mut Ground) -> Result<u64, String> {
                     ground.refuse(bytes, &call, *number)?;
                 }
                 if !are_nodes {
-                    ground.refuse(&at_rest, &call, 4)?;
-                    ground.refuse(&not_at_rest, &call, 4)?;
+                    for bytes in [&at_rest, &not_at_rest, &noticed, &busy_noticed] {
+                        ground.refuse(bytes, &call, 4)?;
+                    }
                 } else if let Call::Why { room, .. } = call {
                     ground.refuse(&not_at_rest, &call, 12)?;
+                    ground.refuse(&busy_noticed, &call, 12)?;
+                    ground.refuse(&noticed, &call, 13)?;
                     if room < exact {
                         ground.refuse(&at_rest, &call, 2)
                     } else {
                         explained(ground, &resting, &at_rest, call)
                     }?;
                 } else {
-                    ground.agree(&at_rest, &call)?;
-                    ground.agree(&not_at_rest, &call)?;
+                    for bytes in [&at_rest, &not_at_rest, &noticed, &busy_noticed] {
+                        ground.agree(bytes, &call)?;
+                    }
                 }
-                count += 2 + refused.len() as u64;
+                count += 4 + refused.len() as u64;
             }
         }
     }
@@ -230,7 +288,11 @@ pub fn sites(ground: &mut Ground, random: &mut Random) -> Result<(), String> {
 /// The order of refusals: each of a state's, with numbers that are nodes or none, and with lists of every class.
 pub fn refused(ground: &mut Ground, random: &mut Random) -> Result<(), String> {
     let n = random.node_count();
-    let state = if random.chance(60) { almost_at_rest(random, n) } else { states::any(random, n) };
+    let state = match random.below(10) {
+        0..5 => almost_at_rest(random, n),
+        5..7 => one_ended_site(random, n),
+        _ => states::any(random, n),
+    };
     let bytes = spoiled(random, &state);
     let classes = classes(n);
     for _ in 0..4 {

@@ -7,7 +7,9 @@ use crate::compare::bounds;
 use crate::compare::call::{Call, needed};
 use crate::compare::ground::Ground;
 use crate::compare::random::Random;
-use crate::compare::states::{self, almost_at_rest, at_rest, pairs, site};
+use crate::compare::states::{
+    self, almost_at_rest, at_rest, at_rest_with_ends, one_ended_site, pairs, sets_of_ends, site,
+};
 use crate::second::rule::State;
 use crate::second::stored::stored;
 
@@ -36,19 +38,42 @@ pub fn every_set(ground: &mut Ground) -> Result<u64, String> {
     Ok(count)
 }
 
-/// Trials and lists of every length up to a few more than a small site needs.
+/// Every set of ends of up to four nodes: no line for a pair with one end up, and no place in the list. In trials and lists
+/// of exact size, in a list that would do for all pairs, and in short ones.
+pub fn every_end(ground: &mut Ground) -> Result<u64, String> {
+    let random = &mut Random::of_case(0, "worth-every-end", 0);
+    let mut count = 0;
+    for n in 1..=4 {
+        for ends in sets_of_ends(n) {
+            let state = at_rest_with_ends(n, &ends);
+            let bytes = stored(&state);
+            let (trial, lines) = needed(&state);
+            let short = [(trial, lines.saturating_sub(1)), (trial, lines.saturating_sub(7)), (trial - 1, lines)];
+            for (trial, lines) in [(trial, lines), (trial, 7 * pairs(n).len())].into_iter().chain(short) {
+                ground.agree(&bytes, &Call::Worth { trial, lines, seed: random.word() })?;
+                count += 1;
+            }
+        }
+    }
+    Ok(count)
+}
+
+/// Trials and lists of every length up to a few more than a small site needs, one with all links or none and one in which
+/// some have one end up.
 pub fn every_room(ground: &mut Ground) -> Result<u64, String> {
     let mut count = 0;
     for n in 1..=3 {
         let random = &mut Random::of_case(0, "worth-every-room", n as u64);
-        let bytes = stored(&site(random, n));
-        let (bytes_needed, numbers_needed) = needed(n);
-        for trial in 0..bytes_needed + 3 {
-            for lines in 0..numbers_needed + 9 {
-                // A trial that is far too short meets few lists.
-                if trial + 2 >= bytes_needed || lines == 0 || lines.abs_diff(numbers_needed) <= 1 {
-                    ground.agree(&bytes, &Call::Worth { trial, lines, seed: random.word() })?;
-                    count += 1;
+        for state in [site(random, n), at_rest_with_ends(n, &[(0, n - 1), (n - 1, 1)])] {
+            let bytes = stored(&state);
+            let (bytes_needed, numbers_needed) = needed(&state);
+            for trial in 0..bytes_needed + 3 {
+                for lines in 0..numbers_needed + 9 {
+                    // A trial that is far too short meets few lists.
+                    if trial + 2 >= bytes_needed || lines == 0 || lines.abs_diff(numbers_needed) <= 1 {
+                        ground.agree(&bytes, &Call::Worth { trial, lines, seed: random.word() })?;
+                        count += 1;
+                    }
                 }
             }
         }
@@ -56,11 +81,16 @@ pub fn every_room(ground: &mut Ground) -> Result<u64, String> {
     Ok(count)
 }
 
-/// A random site for each node count up to 24 and for 32; and one of 40 nodes, the first 13 with all links and the others
-/// a tail. Its trials have up to 39 passes and over 65,536 deliveries, and change up to 7,762 hops.
+/// Random sites for each node count up to 24 and for 32, without ends up alone and with; a ring of 40 nodes with two; and
+/// one of 40 nodes, the first 13 with all links and the others a tail. Its trials have up to 39 passes and over 65,536
+/// deliveries, and change up to 7,762 hops.
 pub fn node_counts(ground: &mut Ground) -> Result<u64, String> {
     let random = &mut Random::of_case(0, "worth-node-counts", 0);
-    let mut sites: Vec<State> = (1..=24).chain([32]).map(|n| site(random, n)).collect();
+    let counts = || (1..=24).chain([32]);
+    let mut sites: Vec<State> = counts().map(|n| site(random, n)).collect();
+    sites.extend(counts().map(|n| one_ended_site(random, n)));
+    let ring = (0..40).flat_map(|a| [(a, (a + 1) % 40), ((a + 1) % 40, a)]);
+    sites.push(at_rest_with_ends(40, &ring.filter(|end| ![(3, 4), (31, 30)].contains(end)).collect::<Vec<_>>()));
     let tailed: Vec<(usize, usize)> = pairs(40).into_iter().filter(|&(a, b)| b < 13 || a + 1 == b).collect();
     sites.push(at_rest(40, &tailed));
     for state in &sites {
@@ -83,8 +113,9 @@ pub fn one_waits(ground: &mut Ground) -> Result<u64, String> {
 /// A site with bytes behind it; trials and lists that are exact, longer, short by one, and none at all.
 pub fn sites(ground: &mut Ground, random: &mut Random) -> Result<(), String> {
     let n = node_count(random);
-    let bytes = [stored(&site(random, n)), behind(random)].concat();
-    let (trial, lines) = needed(n);
+    let state = if random.chance(50) { one_ended_site(random, n) } else { site(random, n) };
+    let bytes = [stored(&state), behind(random)].concat();
+    let (trial, lines) = needed(&state);
     let (more, many) = (random.between(1, 900), random.between(1, 900));
     let one_less = lines.saturating_sub(1);
     let rooms = [(trial, lines), (trial + more, lines + many), (trial + many, lines), (trial, lines + more)];
@@ -101,7 +132,7 @@ pub fn refused(ground: &mut Ground, random: &mut Random) -> Result<(), String> {
     let n = random.node_count();
     let state = if random.chance(40) { almost_at_rest(random, n) } else { states::any(random, n) };
     let bytes = spoiled(random, &state);
-    let (trial, lines) = needed(n);
+    let (trial, lines) = needed(&state);
     let short_trial = *random.pick(&[0, 1, trial - 1]);
     let short_list = *random.pick(&[0, lines / 7, lines.saturating_sub(1)]);
     let rooms = [(trial, lines), (short_trial, lines), (trial, short_list), (short_trial, short_list)];
@@ -114,23 +145,25 @@ pub fn refused(ground: &mut Ground, random: &mut Random) -> Result<(), String> {
 }
 
 /// The core's own lines, with nothing of the second implementation's worth: routes and hops are held to a search over
-/// the links before and after, passes and deliveries to the core's own calls for the link and for a run.
+/// the links before and after, which believes ends that are up alone, passes and deliveries to the core's own calls for the
+/// link and for a run.
 pub fn by_search(ground: &mut Ground, random: &mut Random) -> Result<(), String> {
     let n = if random.chance(1) { 40 } else { node_count(random) };
-    let state = site(random, n);
+    let state = if random.chance(40) { one_ended_site(random, n) } else { site(random, n) };
     let bytes = stored(&state);
-    let (mut trial, mut list) = (random.bytes(bytes.len()), random.numbers(needed(n).1));
+    let with_line: Vec<(usize, usize)> =
+        pairs(n).into_iter().filter(|&(a, b)| state.links[a][b] == state.links[b][a]).collect();
+    let (mut trial, mut list) = (random.bytes(bytes.len()), random.numbers(7 * with_line.len()));
     let answer = ground.core.worth(&bytes, &mut trial, &mut list);
-    if (answer.code, answer.value as usize) != (0, pairs(n).len()) || trial != bytes {
+    if (answer.code, answer.value as usize) != (0, with_line.len()) || trial != bytes {
         return Err(format!("n = {n}: {answer:?}, or the trial is no copy of the state"));
     }
-    let hops = |state: &State| (0..n).map(|u| bounds::hops(state, u)).collect::<Vec<_>>();
-    let before = hops(&state);
-    for (line, (a, b)) in list.chunks_exact(7).zip(pairs(n)) {
+    let before = bounds::hops_at_rest(&state);
+    for (line, (a, b)) in list.chunks_exact(7).zip(with_line) {
         let wrong = |what: String| format!("line {line:?} of {a} and {b}: {what}\n  n = {n}, {:?}", state.links);
         let mut after = state.clone();
         (after.links[a][b], after.links[b][a]) = (!state.links[a][b], !state.links[a][b]);
-        let should = bounds::worth(&before, &hops(&after));
+        let should = bounds::worth(&before, &bounds::hops_at_rest(&after));
         let (pair, routes) = ([line[0], line[1]], [line[4], line[5], line[6]].map(i64::from));
         if pair != [a as i32, b as i32] || routes != should {
             return Err(wrong(format!("should end {should:?}")));
