@@ -58,7 +58,8 @@ static void bring_up(uint8_t *state, size_t size)
            (unsigned)ran.passes, (unsigned)ran.deliveries);
 }
 
-/* Without an up link the routes between its ends are lost or longer; with another link they are gained or shorter. */
+/* Without an up link the routes between its ends are lost or longer; with another link they are gained or shorter.
+   So it is where no link has just one end up, as here; beside one that has, a line may say nothing. */
 static int is_up(const int32_t *line)
 {
     return line[LOST] > 0 || line[CHANGE] > 0;

@@ -2,9 +2,10 @@
  *
  * The core keeps a small network of n nodes (0 to n-1, n from 1 to 40): links that are up or down, one
  * queue of announcements in each direction of a link, and for each node and destination a distance in
- * hops and the downstream neighbour on the way there. Links are brought up and down; entries are
- * delivered one at a time, in passes, or in runs of passes until no queue holds any. From any sound
- * state, and without link events, rest comes within n passes, and distances are then true hop counts.
+ * hops and the downstream neighbour on the way there. Links are brought up and down, or one end of a link
+ * notices that it is lost before the other does; entries are delivered one at a time, in passes, or in runs
+ * of passes until no queue holds any. From any sound state, and without link events, rest comes within n
+ * passes; distances are then true hop counts, unless a link has just one end up.
  * For a state at rest one call tries every link out in a second buffer, and says what each is worth; and
  * another says why a node reaches a destination in so many hops, or not at all.
  *
@@ -12,6 +13,15 @@
  * in a file or handed on as they are. Bytes of the buffer after these are never read or written. Every
  * call on a state first checks all of it, so that a stray write by somebody else is answered with 3 and
  * never followed.
+ *
+ * LINKS WITH ONE END UP. Each end of a link is up or down by itself. The link is whole where both ends are up,
+ * and one-ended where one is: hop_notice takes one end down, as one machine sees the cable drop before the
+ * other does. Entries wait on whole links only. On a one-ended link what the end still up would send is dropped,
+ * and until its own notice it goes by what it last heard there. So a route, of any node, may lead over the dead
+ * link, at rest too. What holds with one-ended links and without: n passes bring rest, and never do more than
+ * n^2 (n-1) entries wait. What holds only where there is none: distances and downstreams are right at rest.
+ * The byte of the state at 1 + a n + b is a's own end of the link to b, 1 up and 0 down, and that at 1 + b n + a
+ * is b's: a link is one-ended where the two differ. hop_down gives the notice that is missing.
  *
  * ANSWERS. Each call gives one of these numbers. Any other than 0 is a refusal: every other answer is then
  * 0, and no byte of any buffer, nor number of any list, has changed.
@@ -22,18 +32,19 @@
  *    3  the state is not sound
  *    4  a node or destination number is not below n
  *    5  both ends are one node
- *    6  link up asked where it is up
- *    7  link down or delivery asked where it is down
+ *    6  link up asked where both ends are up
+ *    7  link down asked where both ends are down, a notice where its own end is, a delivery where either is
  *    8  delivery from an empty queue
  *    9  a record is cut short
  *   10  its kind is unknown
  *   11  its length is not that of its kind
  *   12  the state is not at rest: an entry waits
+ *   13  one end is still up: of the link that is asked up, or, where why is asked, of any link of the state
  *
  * WHAT IS JUDGED FIRST. Where several refusals apply, a call on a state gives the first of: 2 for an empty
  * buffer, 1, 2 for a buffer that is shorter than hop_size of its first byte, 3, 4, 5, 6 or 7, 8, 12, and last
- * 2 for an output, a trial or a list that is too short. At each call below its refusals stand in this order;
- * 'the state's own' are 2, 1, 2, 3 as just said.
+ * 2 for an output, a trial or a list that is too short. 13 of hop_up stands where 6 does, that of hop_why after
+ * 12. At each call below its refusals stand in this order; 'the state's own' are 2, 1, 2, 3 as just said.
  *
  * POINTERS AND LENGTHS. A length may be anything, 0 too; the pointer must be valid for so many bytes, or for
  * so many numbers of a list. Nodes, destinations, node counts and places are full size_t, so that no number
@@ -60,6 +71,19 @@
  *    R-4  came: hop_route; went: hop_distance, hop_downstream. Where a program asked both, it asks once now:
  *             hop_way way = hop_route(s, len, u, v);
  *         way.code is the code of both, way.distance the value of the first, way.downstream that of the second.
+ *    R-5  came: hop_notice, record kind 20, and refusal 13. Without a notice no link is ever one-ended, and every call
+ *         on such a state answers as it did. What changed where one may be:
+ *             link bytes    that at 1 + a n + b is a's own end, and b's, at 1 + b n + a, can differ: whoever takes them
+ *                           for symmetric looks at both now
+ *             hop_check     a state whose ends differ can be sound; it was refused with 3
+ *             hop_up        13 where one end is up
+ *             hop_down      there it gives the notice that is missing; 7 only where both ends are down
+ *             hop_deliver   7 where one end is up
+ *             hop_route     right at rest only where no link is one-ended
+ *             hop_worth     a one-ended pair has no line: count lines by value and not by n(n-1)/2, and find a pair by
+ *                           its two numbers and not by its place
+ *             hop_why       13, after 12
+ *             records       hop_read_event gives kind 20, which was refused with 10
  */
 #ifndef HOP_H
 #define HOP_H
@@ -117,6 +141,12 @@ uint32_t hop_make(uint8_t *state, size_t len, size_t n);
 
 /* Says whether the buffer holds a sound state. Changes nothing.
  *
+ * Sound means all of these. Link bytes are 0 or 1, and 0 from a node to itself; the two ends of a link may differ. Each
+ * distance and downstream is what the node finds from what it last heard over its own ends that are up. What was heard
+ * is at most n, and n over an end that is down. Where not both ends of a link are up, both its queues are empty. In a
+ * queue of a whole link each destination is a node and waits once, with the sender's present distance; of one that does
+ * not wait the receiver has heard that distance. Places of a queue behind its length are 0.
+ *
  * Refuses: the state's own (2 empty, 1, 2 short, 3 not sound).
  *
  *     if (hop_check(state, len) == 3) puts("damaged");
@@ -125,10 +155,11 @@ uint32_t hop_check(const uint8_t *state, size_t len);
 
 /* ------------------------------------------------------------------ events */
 
-/* Brings the link between a and b up. Each end puts all n destinations, ascending, with its own distances,
- * into its queue to the other. No distance changes yet. Up a b and up b a are the same.
+/* Brings the link between a and b up, where both its ends are down. Each end puts all n destinations, ascending,
+ * with its own distances, into its queue to the other. No distance changes yet. Up a b and up b a are the same.
  *
- * Refuses: the state's own; 4; 5; 6 if the link is up.
+ * Refuses: the state's own; 4; 5; 6 if both ends are up; 13 if one is: the other has given its notice, and hop_down
+ * gives the one that is missing.
  *
  *     hop_up(state, len, 0, 1);                              // 0
  *     hop_up(state, len, 1, 0);                              // 6
@@ -136,21 +167,39 @@ uint32_t hop_check(const uint8_t *state, size_t len);
  */
 uint32_t hop_up(uint8_t *state, size_t len, size_t a, size_t b);
 
-/* Takes the link between a and b down, seen by both ends at one moment. Both queues are emptied, both ends
- * forget what they heard on it and recompute every destination; changed distances are queued on their other
- * links. Down a b and down b a are the same.
+/* Takes the link between a and b down: gives whatever notices are missing, as hop_notice does, that of the
+ * lower-numbered end first. Where both ends are up both queues are emptied, both ends forget what they heard on the
+ * link and recompute every destination, and changed distances are queued on their other links, as if both had seen
+ * it at one moment. Where one end is up it gives that end's notice. Down a b and down b a are the same.
  *
- * Refuses: the state's own; 4; 5; 7 if the link is down.
+ * Refuses: the state's own; 4; 5; 7 if both ends are down.
  *
  *     hop_down(state, len, 0, 1);                            // 0
  *     hop_down(state, len, 0, 1);                            // 7
  */
 uint32_t hop_down(uint8_t *state, size_t len, size_t a, size_t b);
 
-/* Delivers the head entry of the queue from one node to another. The receiver recomputes that destination
- * and, if its distance to it changed, queues the new one on each of its links.
+/* One end of a link notices that it is lost. Both queues of the link are emptied. The noticing end is down; it forgets
+ * what it heard on the link and recomputes every destination, ascending, and changed distances are queued on its other
+ * links, as far as these are whole. The other end stays up, with what it last heard on the link, until its own notice:
+ * hop_notice with the two exchanged, or hop_down. Meanwhile what it sends on this link is dropped, and nothing can be
+ * delivered on it.
  *
- * Refuses: the state's own; 4; 5; 7 if the link is down; 8 if the queue is empty.
+ * Refuses: the state's own; 4; 5; 7 if the noticing end is down: its notice is given already, or the link was never up.
+ *
+ *     // with 3 nodes and the links 0-1 and 1-2, at rest:
+ *     hop_notice(state, len, 1, 2);                          // 0: 1 has no route to 2; 2 has not noticed yet
+ *     hop_notice(state, len, 1, 2);                          // 7
+ *     hop_route(state, len, 2, 0);                           // .code 0, .distance 2, .downstream 1: over the dead link
+ *     hop_up(state, len, 1, 2);                              // 13
+ *     hop_notice(state, len, 2, 1);                          // 0: both ends are down; hop_down would have done it too
+ */
+uint32_t hop_notice(uint8_t *state, size_t len, size_t noticing, size_t other);
+
+/* Delivers the head entry of the queue from one node to another. The receiver recomputes that destination
+ * and, if its distance to it changed, queues the new one on each of its links that is whole.
+ *
+ * Refuses: the state's own; 4; 5; 7 unless both ends of the link are up; 8 if the queue is empty.
  *
  *     while (hop_deliver(state, len, 0, 1) == 0) {}          // until it gives 8
  */
@@ -166,7 +215,8 @@ uint32_t hop_deliver(uint8_t *state, size_t len, size_t from, size_t to);
 hop_answer hop_pass(uint8_t *state, size_t len);
 
 /* Makes passes until every queue is empty or as many as the allowance (0 to 255) are made. passes: those made;
- * deliveries: the entries delivered in them. n passes always bring rest, so that 40 are enough for any state.
+ * deliveries: the entries delivered in them. n passes always bring rest, with one-ended links too, so that 40 are
+ * enough for any state.
  *
  * Refuses: the state's own.
  *
@@ -187,7 +237,9 @@ hop_ran hop_run(uint8_t *state, size_t len, uint8_t allowance);
  *
  * n and 255 always come together: either says that no route is known. Before rest the two are what the node believes:
  * where it has a route to another node, that neighbour has said one hop less, which can be out of date. At rest
- * distances are true hop counts, n where no path leads there, and the neighbour is one hop nearer.
+ * distances are true hop counts, n where no path leads there, and the neighbour is one hop nearer, provided that no
+ * link of the state is one-ended. Where one is, a route may lead over the dead link, at rest too: at the end that is
+ * still up, and so at any node that goes by what this end says. It is then worth what a route before rest is worth.
  *
  * Refuses: the state's own; 4 (both answers are then 0, and not n and 255: look at code first).
  *
@@ -198,7 +250,7 @@ hop_ran hop_run(uint8_t *state, size_t len, uint8_t allowance);
  */
 hop_way hop_route(const uint8_t *state, size_t len, size_t node, size_t destination);
 
-/* How many entries wait in the queue from one node to another. value: 0 to n; 0 where the link is down.
+/* How many entries wait in the queue from one node to another. value: 0 to n; 0 unless both ends are up.
  *
  * Refuses: the state's own; 4; 5.
  *
@@ -217,16 +269,17 @@ hop_answer hop_total_queued(const uint8_t *state, size_t len);
 /* ------------------------------------------------------------------ what each link is worth */
 
 /* Tries out, for a state at rest and for every pair of nodes a < b, what their link is worth: a link that is up is
- * taken down, one that is down is put up, and the trial is run to rest. The state is only read, but for as long as
- * the call takes: of a state that others write to, ask on a copy.
+ * taken down, one that is down is put up, and the trial is run to rest. A pair whose link is one-ended is left out. The
+ * state is only read, but for as long as the call takes: of a state that others write to, ask on a copy.
  *
  * The trials are made in a second buffer, trial, which is the caller's as well and needs as many bytes as the state's
  * form, hop_size(n). What stands in it before does not matter. It ends as a copy of the state's form; its bytes after
  * that stay as they were.
  *
- * lines gets seven numbers for each pair, ascending by a and then by b: n(n-1)/2 lines, none with one node. So
- * lines_len, which counts numbers and not bytes, must be at least 7 n(n-1)/2: 21 for 3 nodes, 5,460 for 40, and 0
- * for one. Numbers of the list after the lines stay as they were. value: the lines written.
+ * lines gets seven numbers for each pair that is not one-ended, ascending by a and then by b. n(n-1)/2 lines are
+ * always enough, and exactly so many are written where no link is one-ended; each that is makes it one fewer. So a
+ * lines_len, which counts numbers and not bytes, of 7 n(n-1)/2 fits every state of n nodes: 21 for 3 nodes, 5,460 for
+ * 40, and 0 for one. Numbers of the list after the lines stay as they were. value: the lines written.
  *
  *     at   number       what                                                                      bounds
  *     0    a            the lower-numbered end                                                    0 to n-2
@@ -239,11 +292,16 @@ hop_answer hop_total_queued(const uint8_t *state, size_t len);
  *
  * With 40 nodes these are at most 40 passes, 2,496,000 deliveries, 1,600 pairs and 64,000 hops either way. The change
  * is below 0 where routes got shorter. Taking a link away gains nothing and its change is at least 0; adding one
- * loses nothing and its change is at most 0. Exactly one of the last three is not 0, and tells what was tried: lost,
- * or a change above 0, that the link is up; gained, or a change below 0, that it is down.
+ * loses nothing and its change is at most 0.
+ *
+ * Where no link of the state is one-ended, exactly one of the last three is not 0, and tells what was tried: lost, or a
+ * change above 0, that the link is up; gained, or a change below 0, that it is down. Where one is, the trial of another
+ * pair has it too, and its line counts routes as the tables say them before and after, those over the dead link among
+ * them: lost and change, or gained and change, can then both be other than 0, and where what was last heard there is
+ * nobody's distance all three can be 0.
  *
  * Refuses: the state's own; 12 if an entry waits (bring the state to rest first, or a copy of it: hop_run); 2 if
- * trial_len is below the state's hop_size(n), or lines_len below 7 n(n-1)/2.
+ * trial_len is below the state's hop_size(n), or lines_len below seven numbers for each line.
  *
  *     int32_t lines[21];                                     // 7 numbers for each of the 3 pairs of 3 nodes
  *     uint8_t trial[118];                                    // hop_size(3)
@@ -266,7 +324,8 @@ hop_answer hop_worth(const uint8_t *state, size_t len, uint8_t *trial, size_t tr
  * There is a path exactly where the node has a route to the destination, a distance below n. Each node of it but the
  * first is the downstream of the one before, and one hop nearer to the destination; so its hops are the distance, and
  * no path over up links is shorter. A node is its own path to itself, one byte. Where there is no route the destination
- * is outside the set, and no up link leaves it.
+ * is outside the set, and no up link leaves it. An up link is up at both ends: while any link is one-ended no reason is
+ * given.
  *
  * A list of n bytes is always enough, and one of 40 for every state. Bytes of the list after the reason stay as they
  * were. count: the bytes written.
@@ -277,7 +336,9 @@ hop_answer hop_worth(const uint8_t *state, size_t len, uint8_t *trial, size_t tr
  * at the destination, and each step goes over an up link. So there are no more hops than its own. That there are no
  * fewer is the core's proved word, or what a search of the checker's own finds.
  *
- * Refuses: the state's own; 4; 12 if an entry waits (bring the state to rest first, or a copy of it: hop_run); 2 if
+ * Refuses: the state's own; 4; 12 if an entry waits (bring the state to rest first, or a copy of it: hop_run); 13 if
+ * any link of the state is one-ended, however far away, and also where node and destination are the same (on a copy,
+ * so that no end is told of a loss that it has not seen: hop_down on each such link, hop_run, and ask there); 2 if
  * list_len is below the bytes of this reason. A refusal does not tell how many they are: lend n bytes.
  *
  *     uint8_t list[40];                                      // enough for every state
@@ -311,6 +372,7 @@ hop_answer hop_status(const uint8_t *state, size_t len, size_t node, uint8_t *ou
  *     17     link down                 first, second    8
  *     18     deliver, first to second  first, second    8
  *     19     pass                      none             4
+ *     20     notice, given by first    first, second    8
  *
  * Numbers that the kind does not have are not looked at, and the others may be anything: they are judged by the
  * call that an event is given to. value: the bytes written. Bytes of the output after these stay as they are.
@@ -319,6 +381,7 @@ hop_answer hop_status(const uint8_t *state, size_t len, size_t node, uint8_t *ou
  *
  *     uint8_t record[8];
  *     hop_write_event(16, 0, 1, record, sizeof record);      // .value 8; record is 06 00 10 00 00 00 01 00
+ *     hop_write_event(20, 1, 0, record, sizeof record);      // .value 8; record is 06 00 14 00 01 00 00 00
  */
 hop_answer hop_write_event(uint32_t kind, uint16_t first, uint16_t second, uint8_t *out, size_t out_len);
 
@@ -327,7 +390,7 @@ hop_answer hop_write_event(uint32_t kind, uint16_t first, uint16_t second, uint8
  * was. place must not be NULL.
  *
  * Refuses: 9 if *place is past the end; (plain end); 9 if fewer than 4 bytes are left; 10 if the kind is none
- * of the five, also for a status record; 11 if the length is not that of the kind; 9 if the body is cut.
+ * of the six, also for a status record; 11 if the length is not that of the kind; 9 if the body is cut.
  *
  *     size_t place = 0;
  *     hop_event event;

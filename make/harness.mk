@@ -3,7 +3,7 @@
 # emulated (make/emulated.mk), and what times them or watches them run is not done.
 # The main Makefile includes it; alone it is `make -f make/harness.mk TARGET` in the root of the repository.
 .PHONY: compare program-test selftest must-notice valgrind asan bench bench-test before example example-ring \
-	example-worth example-why exports header header-c header-cxx rust-test native always
+	example-worth example-why example-notice exports header header-c header-cxx rust-test native always
 
 # The archive under test, and the program. Either can be another one, which is then taken as it is.
 NATIVE := $(filter x86_64,$(shell uname -m))
@@ -78,9 +78,9 @@ exports: $(X86_ARCHIVE)
 	@tests/exports $(X86_ARCHIVE) $(X86_LINKED)
 
 # The C examples: what each prints is shown, and held to the text beside it.
-example: example-ring example-worth example-why
+example: example-ring example-worth example-why example-notice
 
-example-ring example-worth example-why: example-%: $(HOP_ARCHIVE) | $(HARNESS_OUT)
+example-ring example-worth example-why example-notice: example-%: $(HOP_ARCHIVE) | $(HARNESS_OUT)
 	@$(CC) $(C_FLAGS) -O2 examples/$*.c $(HOP_ARCHIVE) -o $(HARNESS_OUT)/$*
 	@$(HARNESS_OUT)/$* > $(HARNESS_OUT)/$*.stdout; status=$$?; cat $(HARNESS_OUT)/$*.stdout; exit $$status
 	@diff examples/$*.stdout $(HARNESS_OUT)/$*.stdout

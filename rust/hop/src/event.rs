@@ -31,6 +31,9 @@ pub enum Event {
     Deliver { from: u16, to: u16 },
     /// Kind 19: a pass.
     Pass,
+    /// Kind 20: one end's notice that a link is lost.
+    #[allow(missing_docs)]
+    Notice { noticing: u16, other: u16 },
 }
 
 impl Event {
@@ -45,6 +48,7 @@ impl Event {
             Event::Down { a, b } => (17, a, b),
             Event::Deliver { from, to } => (18, from, to),
             Event::Pass => (19, 0, 0),
+            Event::Notice { noticing, other } => (20, noticing, other),
         }
     }
 
@@ -122,6 +126,7 @@ impl<'a> Reader<'a> {
             17 => Some(Event::Down { a: first, b: second }),
             18 => Some(Event::Deliver { from: first, to: second }),
             19 => Some(Event::Pass),
+            20 => Some(Event::Notice { noticing: first, other: second }),
             kind => unreachable!("the archive reads the kinds that this crate knows, and not {kind}"),
         })
     }

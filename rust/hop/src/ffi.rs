@@ -44,6 +44,7 @@ unsafe extern "C" {
     fn hop_check(state: *const u8, len: usize) -> u32;
     fn hop_up(state: *mut u8, len: usize, a: usize, b: usize) -> u32;
     fn hop_down(state: *mut u8, len: usize, a: usize, b: usize) -> u32;
+    fn hop_notice(state: *mut u8, len: usize, noticing: usize, other: usize) -> u32;
     fn hop_deliver(state: *mut u8, len: usize, from: usize, to: usize) -> u32;
     fn hop_pass(state: *mut u8, len: usize) -> Answer;
     fn hop_run(state: *mut u8, len: usize, allowance: u8) -> Ran;
@@ -82,6 +83,10 @@ pub fn up(state: &mut [u8], a: usize, b: usize) -> u32 {
 
 pub fn down(state: &mut [u8], a: usize, b: usize) -> u32 {
     unsafe { hop_down(state.as_mut_ptr(), state.len(), a, b) }
+}
+
+pub fn notice(state: &mut [u8], noticing: usize, other: usize) -> u32 {
+    unsafe { hop_notice(state.as_mut_ptr(), state.len(), noticing, other) }
 }
 
 pub fn deliver(state: &mut [u8], from: usize, to: usize) -> u32 {

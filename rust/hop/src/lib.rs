@@ -8,11 +8,13 @@
 //!
 //! # Refusals
 //!
-//! A call that cannot be done gives a [`Refusal`] and changes no byte. Where several apply, the first in this order
-//! is given: an empty buffer ([`ShortBuffer`](Refusal::ShortBuffer)), [`NodeCount`](Refusal::NodeCount), a short
-//! buffer, [`NotSound`](Refusal::NotSound), [`NoSuchNode`](Refusal::NoSuchNode), [`OneNode`](Refusal::OneNode),
+//! A call that cannot be done gives a [`Refusal`] and changes no byte. Where several apply, the first in this order is
+//! given: an empty buffer ([`ShortBuffer`](Refusal::ShortBuffer)), [`NodeCount`](Refusal::NodeCount), a short buffer,
+//! [`NotSound`](Refusal::NotSound), [`NoSuchNode`](Refusal::NoSuchNode), [`OneNode`](Refusal::OneNode),
 //! [`LinkIsUp`](Refusal::LinkIsUp) or [`LinkIsDown`](Refusal::LinkIsDown), [`QueueIsEmpty`](Refusal::QueueIsEmpty),
 //! [`NotAtRest`](Refusal::NotAtRest), and last an output, a trial or a list that is too short.
+//! [`OneEndIsUp`](Refusal::OneEndIsUp) stands with `LinkIsUp` where a link is asked up, and after `NotAtRest` where why
+//! is asked.
 //!
 //! # Routes
 //!
@@ -21,8 +23,17 @@
 //!
 //! # Coming to rest
 //!
-//! Without link events, n passes bring any sound state to rest: no queue holds an entry, every distance is the true
-//! number of hops (n for no path), and every downstream is the lowest-numbered neighbour one hop nearer.
+//! Without link events, n passes bring any sound state to rest: no queue holds an entry. If besides no link is
+//! one-ended, every distance is the true number of hops (n for no path), and every downstream is the lowest-numbered
+//! neighbour one hop nearer.
+//!
+//! # Links with one end up
+//!
+//! The two ends of a link need not notice together that it is lost: [`State::notice`] takes one end down. The link is
+//! then one-ended until the other end's notice, or [`State::down`], which gives it. It carries no entries, but the end
+//! still up goes by what it last heard there, so that a route of any node may lead over the dead link, at rest too. In
+//! the bytes a's own end of its link to b stands at 1 + a·n + b: a link is one-ended where the bytes of its two ends
+//! differ.
 //!
 //! # What each link is worth
 //!

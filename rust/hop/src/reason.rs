@@ -29,7 +29,7 @@ pub enum Reason<'a> {
 
 impl Reason<'_> {
     /// What the links show of the reason without any search, for a site of `n` nodes. `up` says whether the link between
-    /// two nodes is up; it is asked with the lower of them first, and never for a node with itself.
+    /// two nodes is up, at both ends; it is asked with the lower of them first, and never for a node with itself.
     ///
     /// - A path begins at the node, ends at the destination, and each step goes over an up link. So the destination is
     ///   reached, in as many hops as the path has or in fewer. That none is shorter this does not show:

@@ -12,7 +12,7 @@ use std::fmt;
 /// let refusal = state.up(0, 1).unwrap_err();
 /// assert_eq!(refusal, Refusal::LinkIsUp);
 /// assert_eq!(refusal.number(), 6);
-/// assert_eq!(refusal.to_string(), "link up asked where it is up");
+/// assert_eq!(refusal.to_string(), "link up asked where both ends are up");
 /// # Ok::<(), Refusal>(())
 /// ```
 #[derive(Clone, Copy, PartialEq, Eq, Hash, Debug)]
@@ -29,9 +29,9 @@ pub enum Refusal {
     NoSuchNode = 4,
     /// 5: both ends are one node.
     OneNode = 5,
-    /// 6: link up asked where it is up.
+    /// 6: link up asked where both ends are up.
     LinkIsUp = 6,
-    /// 7: link down or delivery asked where it is down.
+    /// 7: link down asked where both ends are down, a notice where its own end is, a delivery where either is.
     LinkIsDown = 7,
     /// 8: delivery from an empty queue.
     QueueIsEmpty = 8,
@@ -43,10 +43,12 @@ pub enum Refusal {
     WrongLength = 11,
     /// 12: the state is not at rest: an entry waits.
     NotAtRest = 12,
+    /// 13: one end is still up: of the link that is asked up, or, where why is asked, of any link of the state.
+    OneEndIsUp = 13,
 }
 
 impl Refusal {
-    const ALL: [Refusal; 12] = [
+    const ALL: [Refusal; 13] = [
         Refusal::NodeCount,
         Refusal::ShortBuffer,
         Refusal::NotSound,
@@ -59,6 +61,7 @@ impl Refusal {
         Refusal::UnknownKind,
         Refusal::WrongLength,
         Refusal::NotAtRest,
+        Refusal::OneEndIsUp,
     ];
 
     /// The number of the refusal.
@@ -85,13 +88,16 @@ impl fmt::Display for Refusal {
             Refusal::NotSound => "the state is not sound",
             Refusal::NoSuchNode => "a node or destination number is not below n",
             Refusal::OneNode => "both ends are one node",
-            Refusal::LinkIsUp => "link up asked where it is up",
-            Refusal::LinkIsDown => "link down or delivery asked where it is down",
+            Refusal::LinkIsUp => "link up asked where both ends are up",
+            Refusal::LinkIsDown => {
+                "link down asked where both ends are down, a notice where its own end is, a delivery where either is"
+            }
             Refusal::QueueIsEmpty => "delivery from an empty queue",
             Refusal::RecordCut => "a record is cut short",
             Refusal::UnknownKind => "its kind is unknown",
             Refusal::WrongLength => "its length is not that of its kind",
             Refusal::NotAtRest => "the state is not at rest",
+            Refusal::OneEndIsUp => "one end of a link is still up",
         })
     }
 }

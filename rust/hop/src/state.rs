@@ -129,7 +129,8 @@ impl<B: AsRef<[u8]>> State<B> {
     ///
     /// Both are of one state as it stood at one moment, and cost one check of it. Before rest they are what the node
     /// believes: where it has a route to another node, that neighbour has said one hop less, which can be out of date.
-    /// At rest distances are true hop counts, and the neighbour is one hop nearer.
+    /// At rest, and where no link is one-ended, distances are true hop counts, and the neighbour is one hop nearer;
+    /// where one is, a route may lead over the dead link, at rest too.
     ///
     /// Refuses: [`NoSuchNode`](Refusal::NoSuchNode).
     ///
@@ -153,7 +154,7 @@ impl<B: AsRef<[u8]>> State<B> {
         Ok(Way { distance: way.distance as usize, downstream })
     }
 
-    /// How many entries wait in the queue from one node to another; 0 where the link is down.
+    /// How many entries wait in the queue from one node to another; 0 unless both ends of the link are up.
     ///
     /// Refuses: [`NoSuchNode`](Refusal::NoSuchNode), [`OneNode`](Refusal::OneNode).
     pub fn queue_length(&self, from: usize, to: usize) -> Result<usize, Refusal> {
@@ -165,10 +166,12 @@ impl<B: AsRef<[u8]>> State<B> {
         answered(ffi::total_queued(self.as_bytes()))
     }
 
-    /// What each link is worth, for a state at rest: a line for every pair of nodes, `a < b`, ascending.
+    /// What each link is worth, for a state at rest: a line for every pair of nodes, `a < b`, ascending. A pair whose link
+    /// is one-ended is left out.
     ///
     /// Each line tells of a trial on a copy: a link that is up is taken down, one that is down is put up, and the copy
-    /// is run to rest. That is n(n − 1)/2 runs, 780 with 40 nodes. The state's own bytes are only read.
+    /// is run to rest. That is n(n − 1)/2 runs, 780 with 40 nodes, and one fewer for each one-ended link. The state's
+    /// own bytes are only read.
     ///
     /// The copy is made in a buffer that is allocated for the call and freed with it;
     /// [`write_worth`](State::write_worth) takes the caller's and allocates nothing.
@@ -201,9 +204,9 @@ impl<B: AsRef<[u8]>> State<B> {
     /// What each link is worth, as [`worth`](State::worth), in buffers that the caller owns and lends for the call.
     ///
     /// The trial is scratch memory of at least the state's own [`size`](crate::size): what stands in it before does not
-    /// matter, and it ends with a copy of the state at its front. The list takes [`Worth::list_size`] numbers, seven for
-    /// each line; the lines are read from it one after another. What either holds behind these stays as it was, and
-    /// after a refusal all of it does.
+    /// matter, and it ends with a copy of the state at its front. The list takes seven numbers for each line, and
+    /// [`Worth::list_size`] are always enough; the lines are read from it one after another. What either holds behind
+    /// these stays as it was, and after a refusal all of it does.
     ///
     /// Refuses: [`NotAtRest`](Refusal::NotAtRest), then [`ShortBuffer`](Refusal::ShortBuffer) for the trial or the list.
     ///
@@ -232,7 +235,8 @@ impl<B: AsRef<[u8]>> State<B> {
     /// stays as it was, and after a refusal all of it does. The state's own bytes are only read, and nothing is
     /// allocated.
     ///
-    /// Refuses: [`NoSuchNode`](Refusal::NoSuchNode), [`NotAtRest`](Refusal::NotAtRest) if an entry waits, then
+    /// Refuses: [`NoSuchNode`](Refusal::NoSuchNode), [`NotAtRest`](Refusal::NotAtRest) if an entry waits,
+    /// [`OneEndIsUp`](Refusal::OneEndIsUp) if any link of the state is one-ended, then
     /// [`ShortBuffer`](Refusal::ShortBuffer) for a list that cannot hold this reason.
     ///
     /// ```
@@ -305,22 +309,49 @@ impl<B: AsRef<[u8]> + AsMut<[u8]>> State<B> {
 
     /// Brings a link up: each end queues all its distances for the other.
     ///
-    /// Refuses: [`NoSuchNode`](Refusal::NoSuchNode), [`OneNode`](Refusal::OneNode), [`LinkIsUp`](Refusal::LinkIsUp).
+    /// Refuses: [`NoSuchNode`](Refusal::NoSuchNode), [`OneNode`](Refusal::OneNode), [`LinkIsUp`](Refusal::LinkIsUp) if
+    /// both ends are up, [`OneEndIsUp`](Refusal::OneEndIsUp) if one is: [`down`](State::down) gives the missing notice.
     pub fn up(&mut self, a: usize, b: usize) -> Result<(), Refusal> {
         done(ffi::up(self.bytes.as_mut(), a, b))
     }
 
-    /// Takes a link down: its queues are emptied, and both ends recompute what they heard on it.
+    /// Takes a link down: gives whatever [notices](State::notice) are missing, that of the lower-numbered end first.
+    /// Where both ends are up it is as if both had seen it at one moment.
     ///
-    /// Refuses: [`NoSuchNode`](Refusal::NoSuchNode), [`OneNode`](Refusal::OneNode), [`LinkIsDown`](Refusal::LinkIsDown).
+    /// Refuses: [`NoSuchNode`](Refusal::NoSuchNode), [`OneNode`](Refusal::OneNode), [`LinkIsDown`](Refusal::LinkIsDown)
+    /// if both ends are down.
     pub fn down(&mut self, a: usize, b: usize) -> Result<(), Refusal> {
         done(ffi::down(self.bytes.as_mut(), a, b))
     }
 
+    /// One end of a link notices that it is lost: both queues of the link are emptied, the noticing end is down, forgets
+    /// what it heard there and recomputes every destination. The other end stays up and goes by what it last heard on
+    /// the link, until its own notice; what it sends there meanwhile is dropped.
+    ///
+    /// Refuses: [`NoSuchNode`](Refusal::NoSuchNode), [`OneNode`](Refusal::OneNode), [`LinkIsDown`](Refusal::LinkIsDown)
+    /// if the noticing end is down: its notice is given already, or the link was never up.
+    ///
+    /// ```
+    /// use hop::{Refusal, State};
+    ///
+    /// // The byte of a's own end of its link to b stands at 1 + a·n + b. Where it differs from b's, one end is up.
+    /// let mut state = State::new(2)?;
+    /// state.up(0, 1)?;
+    /// state.notice(0, 1)?;
+    /// assert_eq!((state.as_bytes()[2], state.as_bytes()[3]), (0, 1));
+    /// assert_eq!(state.notice(0, 1), Err(Refusal::LinkIsDown));
+    /// state.notice(1, 0)?;
+    /// assert_eq!(state.as_bytes(), State::new(2)?.as_bytes());
+    /// # Ok::<(), Refusal>(())
+    /// ```
+    pub fn notice(&mut self, noticing: usize, other: usize) -> Result<(), Refusal> {
+        done(ffi::notice(self.bytes.as_mut(), noticing, other))
+    }
+
     /// Delivers the head entry of the queue from one node to another.
     ///
-    /// Refuses: [`NoSuchNode`](Refusal::NoSuchNode), [`OneNode`](Refusal::OneNode), [`LinkIsDown`](Refusal::LinkIsDown),
-    /// [`QueueIsEmpty`](Refusal::QueueIsEmpty).
+    /// Refuses: [`NoSuchNode`](Refusal::NoSuchNode), [`OneNode`](Refusal::OneNode), [`LinkIsDown`](Refusal::LinkIsDown)
+    /// unless both ends are up, [`QueueIsEmpty`](Refusal::QueueIsEmpty).
     pub fn deliver(&mut self, from: usize, to: usize) -> Result<(), Refusal> {
         done(ffi::deliver(self.bytes.as_mut(), from, to))
     }
@@ -353,6 +384,7 @@ impl<B: AsRef<[u8]> + AsMut<[u8]>> State<B> {
             Event::Down { a, b } => self.down(a.into(), b.into()),
             Event::Deliver { from, to } => self.deliver(from.into(), to.into()),
             Event::Pass => self.pass().map(|_| ()),
+            Event::Notice { noticing, other } => self.notice(noticing.into(), other.into()),
         }
     }
 }

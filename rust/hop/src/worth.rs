@@ -6,8 +6,11 @@ use std::slice::ChunksExact;
 
 /// What the link between two nodes is worth: what its trial did, see [`State::worth`](crate::State::worth).
 ///
-/// A pair has a route where its distance is below n. Pairs are ordered: from u to v and from v to u are two. Exactly one
-/// of `lost`, `gained` and `change` is not 0.
+/// A pair has a route where its distance is below n. Pairs are ordered: from u to v and from v to u are two.
+///
+/// Where no link of the state is one-ended, exactly one of `lost`, `gained` and `change` is not 0. Where one is, the line
+/// of another pair counts routes as the tables say them, those over the dead link too, and two of the three, or none, can
+/// be other than 0.
 ///
 /// ```
 /// // What hurts most when it goes stands first: the routes that are lost, then the hops that are added.
@@ -47,7 +50,8 @@ impl Worth {
     /// The numbers of the longest list, that of 40 nodes.
     pub const LONGEST_LIST: usize = Worth::NUMBERS * MOST_NODES * (MOST_NODES - 1) / 2;
 
-    /// The numbers that the list of `n` nodes takes, or nothing where `n` is not 1 to 40.
+    /// The numbers that are enough for the list of any state of `n` nodes, or nothing where `n` is not 1 to 40. Exactly
+    /// so many are needed where no link is one-ended, and seven fewer for each that is.
     ///
     /// ```
     /// use hop::Worth;
@@ -61,9 +65,10 @@ impl Worth {
         (1..=MOST_NODES).contains(&n).then(|| Worth::NUMBERS * n * (n - 1) / 2)
     }
 
-    /// Whether the link is up, so that the trial took it down; the trial of any other put it up.
+    /// Whether the line shows that the link is up, so that the trial took it down; the trial of any other put it up. It
+    /// never shows so of a link that is down, and of each that is up where no link of the state is one-ended.
     ///
-    /// At rest the ends of an up link are one hop apart, and without it their routes are lost or longer.
+    /// At rest the ends of an up link are then one hop apart, and without it their routes are lost or longer.
     pub fn is_up(&self) -> bool {
         self.lost > 0 || self.change > 0
     }

@@ -92,6 +92,7 @@ fn events_are_read_as_written() -> Done {
         Event::Down { a: 1, b: 2 },
         Event::Deliver { from: 40, to: 39 },
         Event::Pass,
+        Event::Notice { noticing: 39, other: 256 },
     ];
     let mut script = Vec::new();
     for event in events {
@@ -103,15 +104,19 @@ fn events_are_read_as_written() -> Done {
     assert_eq!(Reader::new(&script).collect::<Result<Vec<Event>, Refusal>>()?, events);
     script.extend([12, 0, 1, 0]);
     let read: Vec<Result<Event, Refusal>> = Reader::new(&script).collect();
-    assert_eq!((read.len(), read[5]), (6, Err(Refusal::UnknownKind)));
+    assert_eq!((read.len(), read[6]), (7, Err(Refusal::UnknownKind)));
+    // The first kind that is none, and a notice whose length is another kind's.
+    assert_eq!(Reader::new(&[6, 0, 21, 0, 0, 0, 1, 0]).read(), Err(Refusal::UnknownKind));
+    assert_eq!(Reader::new(&[4, 0, 20, 0, 0, 0]).read(), Err(Refusal::WrongLength));
+    assert_eq!(Reader::new(&[6, 0, 20, 0, 0, 0]).read(), Err(Refusal::RecordCut));
     assert_eq!(Reader::at(&script, script.len() + 1).read(), Err(Refusal::RecordCut));
     Ok(())
 }
 
 #[test]
 fn every_refusal_has_its_number() {
-    for number in 1..=12 {
+    for number in 1..=13 {
         assert_eq!(Refusal::of_number(number).map(Refusal::number), Some(number));
     }
-    assert_eq!(Refusal::of_number(13), None);
+    assert_eq!(Refusal::of_number(14), None);
 }

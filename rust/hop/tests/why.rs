@@ -239,6 +239,31 @@ fn refusals_in_their_order() -> Done {
     Ok(())
 }
 
+#[test]
+fn a_link_with_one_end_up_anywhere_is_refused_after_rest_and_before_the_list() -> Done {
+    // The line 0-1-2, 3 apart, and the line 4-5, of which 5 notices the loss.
+    let mut state = at_rest((6, &[(0, 1), (1, 2), (4, 5)]))?;
+    state.notice(5, 4)?;
+    assert_eq!(state.total_queued()?, 0);
+    for (node, destination) in (0..6).flat_map(|u| (0..6).map(move |v| (u, v))) {
+        assert_eq!(refused(state.as_bytes(), node, destination, 6), Refusal::OneEndIsUp);
+    }
+    assert_eq!(refused(state.as_bytes(), 0, 2, 0), Refusal::OneEndIsUp);
+    assert_eq!(refused(state.as_bytes(), 0, 2, 0).number(), 13);
+    assert_eq!(refused(state.as_bytes(), 0, 6, 0), Refusal::NoSuchNode);
+    let mut busy = state.clone();
+    busy.up(2, 3)?;
+    assert_eq!(refused(busy.as_bytes(), 0, 2, 0), Refusal::NotAtRest);
+    busy.run(255)?;
+    assert_eq!(refused(busy.as_bytes(), 0, 2, 6), Refusal::OneEndIsUp);
+    // The other end notices: reasons are given again.
+    let mut list = [0; 6];
+    state.notice(4, 5)?;
+    assert_eq!(state.why(0, 2, &mut list)?, Reason::Path(&[0, 1, 2]));
+    assert_eq!(state.why(4, 5, &mut list)?, Reason::Set(&[4]));
+    Ok(())
+}
+
 /// The line 0-1-2-3 and the link 1-3; the line 4-5; 6 alone.
 const SITE: (usize, Links) = (7, &[(0, 1), (1, 2), (2, 3), (1, 3), (4, 5)]);
 

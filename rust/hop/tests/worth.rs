@@ -156,6 +156,64 @@ fn not_at_rest_is_judged_after_sound_and_before_short() -> Done {
 }
 
 #[test]
+fn a_pair_with_one_end_up_has_no_line() -> Done {
+    // A triangle, a square and the one link between them. Two links are lost by one end.
+    let links = [(0, 1), (0, 2), (1, 2), (2, 3), (3, 4), (4, 5), (5, 6), (3, 6)];
+    let mut state = at_rest(7, &links)?;
+    let mut left: Vec<_> = (0..7).flat_map(|a| (a + 1..7).map(move |b| (a, b))).collect();
+    for (noticing, other) in [(4, 3), (0, 1)] {
+        state.notice(noticing, other)?;
+        assert_eq!(refused(state.as_bytes(), 0, 0), Refusal::NotAtRest);
+        state.run(255)?;
+        left.retain(|&pair| pair != (other.min(noticing), other.max(noticing)));
+        // Every other pair has its line, which goes by the tables, and the list takes seven numbers for each and no more.
+        let lines = state.worth()?;
+        assert!(lines.iter().map(|line| (line.a, line.b)).eq(left.iter().copied()));
+        for line in &lines {
+            assert_eq!(*line, tried(&state, 7, line.a, line.b)?);
+        }
+        assert_eq!(list_of(&state, vec![-77; 7 * left.len()])?.len(), 7 * left.len());
+        assert_eq!(refused(state.as_bytes(), state.as_bytes().len(), 7 * left.len() - 1), Refusal::ShortBuffer);
+        let longest = list_of(&state, vec![-77; Worth::list_size(7).expect("7 is a node count")])?;
+        assert!(longest[7 * left.len()..].iter().all(|&number| number == -77));
+        let mut trial = vec![0; state.as_bytes().len()];
+        state.write_worth(&mut trial, &mut [0; Worth::LONGEST_LIST])?;
+        assert_eq!(trial, state.as_bytes());
+    }
+    Ok(())
+}
+
+#[test]
+fn lines_beside_a_link_with_one_end_up_go_by_the_tables() -> Done {
+    // A triangle in which 0 notices the loss of 1. Without 0-2 both routes of 0 are lost, and 2 goes to 0 by way of 1,
+    // which goes over the dead link. Without 1-2 nobody reaches 1, which goes to 2 over the dead link.
+    let mut state = at_rest(3, &[(0, 1), (0, 2), (1, 2)])?;
+    state.notice(0, 1)?;
+    state.run(255)?;
+    assert_eq!(list_of(&state, vec![77; 15])?, [0, 2, 1, 1, 2, 0, 1, 1, 2, 2, 2, 2, 0, 1, 77]);
+    // A triangle of which 2 alone has noticed that its links are lost. What it said of the two others is written over, by
+    // hand: each of them then counts on 2 for the other, and 0-1 is missed by nobody.
+    let mut state = at_rest(3, &[(0, 1), (0, 2), (1, 2)])?;
+    for node in [0, 1] {
+        state.notice(2, node)?;
+    }
+    state.run(255)?;
+    assert_eq!(state.worth()?, [Worth { a: 0, b: 1, passes: 0, deliveries: 0, lost: 0, gained: 0, change: 2 }]);
+    assert!(state.worth()?[0].is_up());
+    let mut bytes = state.into_inner();
+    for view in [35, 43] {
+        assert_eq!(std::mem::replace(&mut bytes[view], 0), 1);
+    }
+    let line = State::over(&bytes[..]).worth()?[0];
+    assert_eq!(((line.a, line.b), (line.lost, line.gained, line.change), line.is_up()), ((0, 1), (0, 0, 0), false));
+    // Two nodes, one end up: no pair is left, and no number is needed.
+    let mut two = at_rest(2, &[(0, 1)])?;
+    two.notice(1, 0)?;
+    assert_eq!((two.worth()?, list_of(&two, Vec::new())?), (vec![], vec![]));
+    Ok(())
+}
+
+#[test]
 fn one_node_has_no_lines_and_is_copied() -> Done {
     let state = State::new(1)?;
     assert_eq!(state.worth()?, []);
