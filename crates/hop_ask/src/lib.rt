@@ -1,4 +1,5 @@
 // The public questions about a state: no byte of it changes. None counts on its caller: each refuses by document 01's numbers, in its order, or answers what hop_rule says.
+#![tactic(auto)]
 
 ghost use Rattle.std.specs.Prelude.{◌≡◌, ◌<◌};
 ghost use Rattle.hop_rule.specs.Calls as call;

@@ -1,5 +1,6 @@
 // The calls that C, C++ and Rust programs link: each is one call of the proved core, with the same definition in its contract, and counts on nothing.
 // Names, parameter order and widths are fixed: a call stays as it is, or goes by a change request, and then no program that names it links.
+#![tactic(auto)]
 
 ghost use Rattle.std.specs.Prelude.{◌≡◌, [], ◌∷◌};
 ghost use Rattle.hop_rule.specs.Calls as call;

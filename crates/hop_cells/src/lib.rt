@@ -1,4 +1,5 @@
 // One byte of a stored state by name: where it stands, reading it, writing it; and a row of them written. `wide` and `least` serve all the code.
+#![tactic(auto)]
 
 ghost use Rattle.std.specs.Prelude.{◌≡◌, ◌+◌, ◌*◌, ◌<◌, ◌≤◌, min, length};
 ghost use Rattle.hop_rule.specs.Route as question;
@@ -118,7 +119,7 @@ pub fn put2(s: &mut [u8], n: usize, t: Table, a: usize, b: usize, x: u8)
 }
 
 // What a node has for a destination, hops and direction read at once (02, R-4).
-#[derive(Drop)]
+#[derive(Clone, Copy)]
 pub struct Way {
     pub distance: usize,
     pub downstream: usize,

@@ -1,5 +1,6 @@
 // What R-1 counts over the distances of two stored states of n nodes, before and after: ordered pairs that lost their route, and the change in hops.
 // The block of distances is one row of n² bytes, gone through in loops that compile to vector instructions.
+#![tactic(auto)]
 
 ghost use Rattle.std.specs.Prelude.{◌≡◌, ◌*◌, ◌<◌, ◌≤◌, pos, ◌-ℤ◌};
 ghost use Rattle.hop_rule.specs.declared.Table.TheVariants.{Distances};

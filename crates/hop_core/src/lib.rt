@@ -1,4 +1,5 @@
 // The public calls that change a state, and check. None counts on its caller: each refuses by document 01's numbers, in its order, or does what hop_rule says.
+#![tactic(auto)]
 
 ghost use Rattle.std.specs.Prelude.{◌≡◌, ◌<◌};
 ghost use Rattle.hop_rule.specs.Calls as call;

@@ -1,4 +1,5 @@
 // What is counted in the bytes of a stored state: entries that wait, and destinations that a node reaches.
+#![tactic(auto)]
 
 ghost use Rattle.std.specs.Prelude.{◌≡◌, ◌<◌, ◌≤◌};
 ghost use Rattle.hop_cells.specs.Cells.{Room};

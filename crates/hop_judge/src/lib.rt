@@ -1,4 +1,5 @@
 // Refusals, in document 01's order: each function judges what the one that it calls left open. No byte is changed, and the first byte is read here only.
+#![tactic(auto)]
 
 mod ends;
 

@@ -89,7 +89,7 @@ module _ (c : Call) (s out : List ℕ) where
   outcome_number = judged_number (refusals c s out) (λ (o : Outcome). o.number) _ _ done_number refl
     where
       done_number : (done c s out).number ≡ 0
-      done_number = elim c [
+      done_number = elim c as (λ c. (done c s out).number ≡ 0) [
         | make n ↦ refl
         | check ↦ refl
         | up a b ↦ refl

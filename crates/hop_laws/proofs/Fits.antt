@@ -33,7 +33,7 @@ unfolding event_record record_of body_of
 event_bytes e h = words_bytes _ (head, (omega (arith, kind_small e), fit (body_of e) h))
   where
     head : 2 + 2 * length (body_of e) < 65536
-    head = elim e [ Make n ↦ omega arith | Up a b ↦ omega arith | Down a b ↦ omega arith | Deliver w u ↦ omega arith | Pass ↦ omega arith | Notice a b ↦ omega arith ]
+    head = elim e as (λ e. 2 + 2 * length (body_of e) < 65536) [ Make n ↦ omega arith | Up a b ↦ omega arith | Down a b ↦ omega arith | Deliver w u ↦ omega arith | Pass ↦ omega arith | Notice a b ↦ omega arith ]
 
 -- The fields of a status record are never reduced: soundness makes them fit.
 pub status_bytes : (s : State) → Sound s → s.n ≤ 40 → (u : ℕ) → u < s.n → (i : ℕ) → get_or (status_record s u) i 0 < 256

@@ -108,23 +108,23 @@ known_kind kind k =
 module _ (e : Event) where
   pub kind_small : kind_of e < 100
   unfolding kind_of
-  kind_small = elim e [ Make n ↦ omega arith | Up a b ↦ omega arith | Down a b ↦ omega arith | Deliver w u ↦ omega arith | Pass ↦ omega arith | Notice a b ↦ omega arith ]
+  kind_small = elim e as (λ e. kind_of e < 100) [ Make n ↦ omega arith | Up a b ↦ omega arith | Down a b ↦ omega arith | Deliver w u ↦ omega arith | Pass ↦ omega arith | Notice a b ↦ omega arith ]
 
   known_event : known (kind_of e) ≡ true
   unfolding known kind_of
-  known_event = elim e [ Make n ↦ refl | Up a b ↦ refl | Down a b ↦ refl | Deliver w u ↦ refl | Pass ↦ refl | Notice a b ↦ refl ]
+  known_event = elim e as (λ e. known (kind_of e) ≡ true) [ Make n ↦ refl | Up a b ↦ refl | Down a b ↦ refl | Deliver w u ↦ refl | Pass ↦ refl | Notice a b ↦ refl ]
 
   pub length_event : length_of (kind_of e) ≡ 2 + 2 * length (body_of e)
   unfolding length_of kind_of body_of
-  length_event = elim e [ Make n ↦ refl | Up a b ↦ refl | Down a b ↦ refl | Deliver w u ↦ refl | Pass ↦ refl | Notice a b ↦ refl ]
+  length_event = elim e as (λ e. length_of (kind_of e) ≡ 2 + 2 * length (body_of e)) [ Make n ↦ refl | Up a b ↦ refl | Down a b ↦ refl | Deliver w u ↦ refl | Pass ↦ refl | Notice a b ↦ refl ]
 
   kind_event_at : (s : List ℕ) (p : ℕ) → kind_of (event_at (kind_of e) s p) ≡ kind_of e
   unfolding event_of kind_of
-  kind_event_at s p = elim e [ Make n ↦ refl | Up a b ↦ refl | Down a b ↦ refl | Deliver w u ↦ refl | Pass ↦ refl | Notice a b ↦ refl ]
+  kind_event_at s p = elim e as (λ e. kind_of (event_at (kind_of e) s p) ≡ kind_of e) [ Make n ↦ refl | Up a b ↦ refl | Down a b ↦ refl | Deliver w u ↦ refl | Pass ↦ refl | Notice a b ↦ refl ]
 
   body_event_at : (s : List ℕ) (p : ℕ) → body_of (event_at (kind_of e) s p) ≡ words_at s p (length (body_of e))
   unfolding event_of kind_of body_of
-  body_event_at s p = elim e [ Make n ↦ refl | Up a b ↦ refl | Down a b ↦ refl | Deliver w u ↦ refl | Pass ↦ refl | Notice a b ↦ refl ]
+  body_event_at s p = elim e as (λ e. body_of (event_at (kind_of e) s p) ≡ words_at s p (length (body_of e))) [ Make n ↦ refl | Up a b ↦ refl | Down a b ↦ refl | Deliver w u ↦ refl | Pass ↦ refl | Notice a b ↦ refl ]
 
 event_at_body : (e : Event) (s : List ℕ) (p : ℕ) → words_at s p (length (body_of e)) ≡ body_of e → event_at (kind_of e) s p ≡ e
 unfolding event_of kind_of body_of

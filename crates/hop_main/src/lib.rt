@@ -1,4 +1,5 @@
 // The program: at most the first 16,384 bytes of standard input are a script, and its text goes to standard output.
+#![tactic(auto)]
 
 ghost use Rattle.std.specs.Prelude.{◌≤◌};
 ghost use Rattle.hop_text.specs.Writing.{Wrote};

@@ -1,4 +1,5 @@
 // Document 01's numbers that are run and compared, and not proved one by one: the square at rest; all 780 links of 40 up, nothing delivered; a line of 40 to rest.
+#![tactic(auto)]
 
 ghost use Rattle.std.specs.Prelude.{◌<◌};
 

@@ -1,4 +1,5 @@
 // One queue of a stored state: sending into it, taking its head, filling and emptying it.
+#![tactic(auto)]
 
 ghost use Rattle.std.specs.Prelude.{◌≡◌, ◌+◌, ◌*◌, ◌<◌, ◌≤◌};
 ghost use Rattle.hop_cells.specs.Cells.{Room, cells};

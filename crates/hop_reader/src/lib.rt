@@ -1,4 +1,5 @@
 // Records read one after another, through a reader that keeps the lent bytes together with its place. Thin over hop_records' read_event.
+#![tactic(auto)]
 
 ghost use Rattle.std.specs.Prelude.{◌≡◌};
 ghost use Rattle.hop_rule.specs.Records.{place_after};

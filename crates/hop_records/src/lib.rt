@@ -1,4 +1,6 @@
 // Event and status records as bytes, written and read. The one place in the code that knows an event's kind, length and numbers.
+#![tactic(auto)]
+
 ghost use Rattle.std.specs.Prelude.{◌≡◌, true, [], ◌∷◌, ◌+◌, ◌<◌, ◌≤◌, length};
 ghost use Rattle.std.proofs.lemmas.List.Edits.{sets};
 ghost use Rattle.hop_rule.specs.Records.{words, word_at, record_of, known, length_of, event_at, read_event, written};

@@ -1,4 +1,5 @@
 // A script of records to the program's text: each event is applied by its public call and printed, and at the end every route.
+#![tactic(auto)]
 
 ghost use Rattle.std.specs.Prelude.{◌≡◌, [], ◌≤◌, ◌<◌, take};
 ghost use Rattle.hop_rule.specs.Stored.{read_as};

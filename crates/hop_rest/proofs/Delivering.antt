@@ -42,7 +42,7 @@ use Rattle.hop_rest.proofs.Comes.{comes_to_rest}
 refused_both : (s : List ℕ) (p q : List Queue) → NoneRefused s p → NoneRefused (delivering s p) q → NoneRefused s (p ++ q)
 unfolding delivering
 refused_both s [] q h k = k
-refused_both s (x ∷ p) q h k = (h.0, refused_both _ p q h.1 k)
+refused_both s (x ∷ p) q h k = (h.0, refused_both (delivery s x).bytes p q h.1 k)
 
 after_deliveries : (s : State) (ps : List (List Queue)) → after s ps ≡ deliveries s (flatten ps)
 unfolding after deliveries flatten

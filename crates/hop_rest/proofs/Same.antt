@@ -62,8 +62,8 @@ deliver_same {s} {t} w u o lw lu e = go (s.queue w u) refl
 pub deliveries_same : {s t : State} (qs : List Queue) → Sound s → Nodes s.n qs → Same s t → Same (deliveries s qs) (deliveries t qs)
 unfolding deliveries
 deliveries_same [] o l e = e
-deliveries_same {s} {t} (q ∷ qs) o l e =
-    deliveries_same qs (deliver_keeps_sound s q.sender q.receiver o l.0 l.1) (subst (λ (m : ℕ). Nodes m qs) (sym (deliver_n s q.sender q.receiver)) l.2)
+deliveries_same {s = s} {t = t} (q ∷ qs) o l e =
+    deliveries_same {s = deliver s q.sender q.receiver} {t = deliver t q.sender q.receiver} qs (deliver_keeps_sound s q.sender q.receiver o l.0 l.1) (subst (λ (m : ℕ). Nodes m qs) (sym (deliver_n s q.sender q.receiver)) l.2)
     (deliver_same q.sender q.receiver o l.0 l.1 e)
 
 -- ---- links

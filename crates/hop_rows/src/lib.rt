@@ -1,5 +1,6 @@
 // Rows of bytes: where they start, and plain tests on them. A loop goes over contiguous bytes to their end, and a byte that fails takes the mark `ok` away:
 // that form is compiled to vector instructions, and one with a way out, or with a test that waits for another, is not.
+#![tactic(auto)]
 
 ghost use Rattle.std.specs.Prelude.{◌≡◌, ◌+◌, ◌*◌, ◌<◌, ◌≤◌, length};
 ghost use Rattle.hop_rule.specs.Stored.{size};

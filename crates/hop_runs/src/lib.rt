@@ -1,4 +1,5 @@
 // Passes and runs on the bytes of a stored state.
+#![tactic(auto)]
 
 ghost use Rattle.std.specs.Prelude.{◌≡◌, ℕ, ◌+◌, ◌*◌, ◌<◌, ◌≤◌, length, get_or};
 ghost use Rattle.hop_rule.specs.declared.Table.TheVariants.{Lengths};

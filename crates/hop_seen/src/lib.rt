@@ -1,4 +1,5 @@
 // A set of numbers below 64 in one number, a bit for each; and by it whether the destinations of a queue differ, each of them read once.
+#![tactic(auto)]
 
 ghost use Rattle.std.specs.Prelude.{◌≡◌, true, ◌+◌, ◌<◌, ◌≤◌, length};
 ghost use Rattle.hop_rows.specs.Rows.{all_below};

@@ -1,4 +1,5 @@
 // The soundness check: 01's sound, decided on the bytes of a stored state. Rows are judged as wholes; the ways out stand between them.
+#![tactic(auto)]
 
 mod nodes;
 

@@ -1,4 +1,5 @@
 // What is judged of two nodes u and w: u's end of their link, u's views from w, and the queue from w to u. The other end and the other queue are judged of w and u.
+#![tactic(auto)]
 
 ghost use Rattle.std.specs.Prelude.{◌≡◌, true, ◌+◌, ◌*◌, ◌-◌, ◌<◌, ◌≤◌};
 ghost use Rattle.hop_rule.specs.declared.Table.TheVariants.{Destinations};

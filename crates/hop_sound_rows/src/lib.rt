@@ -1,4 +1,5 @@
 // Tests of rows of bytes that only the soundness check makes. A loop goes straight over a row, as in hop_rows.
+#![tactic(auto)]
 
 ghost use Rattle.std.specs.Prelude.{◌≡◌, true, ℕ, ◌+◌, ◌-◌, max, ◌<◌, ◌≤◌, eqb, length, get_or};
 ghost use Rattle.hop_rows.specs.Rows.{byte, all_below};

@@ -1,4 +1,5 @@
 // The events on the bytes of a stored state: recompute, deliver, link up, one end's notice that a link is lost, link down by notices; and a fresh state.
+#![tactic(auto)]
 
 ghost use Rattle.std.specs.Prelude.{◌≡◌, ℕ, ◌+◌, ◌*◌, ◌<◌, ◌≤◌, length, get_or, set};
 ghost use Rattle.hop_rule.specs.declared.Table.TheVariants.{Views};

@@ -1,4 +1,5 @@
 // The program's lines as text, written into a lent buffer from a place on. The answer is the place behind the text, also where the buffer ends before it.
+#![tactic(auto)]
 
 ghost use Rattle.std.specs.Prelude.{[], ◌∷◌};
 ghost use Rattle.hop_text.specs.Text.{digits, number, header, event_line, downstream_end, route_line};

@@ -1,4 +1,5 @@
 // One trial of R-1, in a buffer that begins with a copy of the state: the link of a pair is turned, the trial is run to rest, what it tells is counted, and the copy is there again.
+#![tactic(auto)]
 
 ghost use Rattle.std.specs.Prelude.{◌≡◌, true, ◌<◌, ◌≤◌, length, take};
 ghost use Rattle.hop_rule.specs.Stored.{read};

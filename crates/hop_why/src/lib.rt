@@ -1,4 +1,5 @@
 // Why a node reaches a destination in so many hops, or not at all (02, R-3): the path, the set, and the public call, which does not count on its caller.
+#![tactic(auto)]
 
 ghost use Rattle.std.specs.Prelude.{◌≡◌, ◌+◌, ◌<◌, ◌≤◌, length};
 ghost use Rattle.std.proofs.lemmas.List.Edits.{sets};

@@ -1,4 +1,5 @@
 // What each link is worth (02, R-1): the lines of all pairs that are tried, ascending, and the public call, which does not count on its caller.
+#![tactic(auto)]
 
 ghost use Rattle.std.specs.Prelude.{◌≡◌, ◌+◌, ◌*◌, ◌<◌, ◌≤◌, pos, length, set};
 ghost use Rattle.std.proofs.lemmas.List.Edits.{sets};
