@@ -1,0 +1,11 @@
+-- `block` meets its contract: the rows lie inside the state. Assumes nothing.
+use mathlib.Core.Path.{refl}
+use native.Mathlib.Omega.{arith}
+use Rattle.hop_rows.proofs.Inside.{rows_inside}
+use Rattle.hop_rows.proofs.block.Goals as goal
+
+pub overflow_add-result : goal.overflow_add-result
+overflow_add-result c = let p = c.requires in let i = rows_inside c.args.n c.args.t p.0 p.1 p.2 in omega (arith, c.start.ensures)
+
+pub returns : goal.returns
+returns c = let p = c.requires in let i = rows_inside c.args.n c.args.t p.0 p.1 p.2 in rw c.start.ensures (refl, i.ends)

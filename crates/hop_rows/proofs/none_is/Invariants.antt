@@ -1,0 +1,10 @@
+use mathlib.Core.Path.{◌≡◌}
+use mathlib.Core.Bool.{not}
+use Prim.Native.Nat.{◌≤◌}
+use lib.Dec.{eqb}
+use Rattle.hop_rule.specs.Words.{every}
+use Rattle.hop_rows.specs.Rows.{byte}
+use Rattle.hop_rows.proofs.none_is.Given as goal
+
+abbrev pub invariant-loop-i : goal.invariant-loop-i
+invariant-loop-i l = (l.i ≤ l.k) × (l.ok ≡ every l.i (λ j. not (eqb (byte l.s l.at j) l.x)))
