@@ -1,0 +1,10 @@
+use mathlib.Core.Path.{◌≡◌, sym}
+use Prim.Native.Nat.{ℕ, ◌≤◌, ◌*◌, ◌-◌}
+use native.Mathlib.Omega.{arith}
+use borrow.Author.Rules.{rules}
+use Rattle.hop_rule.specs.Words.{sum as sum_of}
+use Rattle.hop_counts.specs.Counts.{waiting_from, queued}
+use Rattle.hop_counts.proofs.queued.Given as goal
+
+abbrev pub invariant-loop-w : goal.invariant-loop-w
+invariant-loop-w l = (l.w ≤ l.n) × (l.sum ≤ 10200 * l.w) × (l.sum ≡ sum_of l.w (λ (x : ℕ). waiting_from l.n x l.s))
