@@ -1,5 +1,4 @@
 -- `change_at` meets its contract: of two routes the difference is taken, and where one is none both sides are 0. Assumes nothing.
-use borrow.Author.Rules.{rules}
 use Rattle.hop_changes.proofs.Sums.{change_one, change_one_none}
 use Rattle.hop_changes.proofs.change_at.Goals as goal
 

@@ -1,12 +1,8 @@
 -- `lost` meets its contract: after i turns the places below i are counted, at most 1 each. Assumes nothing.
-use mathlib.Core.Path.{◌≡◌, sym, ap, ◌∙◌}
-use Prim.Native.Nat.{◌*◌, ◌≤◌, ◌-◌}
+use mathlib.Core.Path.{sym, ◌∙◌}
 use native.Mathlib.Omega.{arith}
-use borrow.Author.Rules.{rules}
-use Rattle.hop_rule.specs.Words.{sum as sum_of}
 use Rattle.hop_laws.proofs.Words.{sum_none}
 use Rattle.hop_cells.proofs.Loops.{sum_turn, sum_end}
-use Rattle.hop_changes.specs.Changes.{lost_at}
 use Rattle.hop_changes.proofs.Sums.{lost_all}
 use Rattle.hop_changes.proofs.lost.Goals as goal
 

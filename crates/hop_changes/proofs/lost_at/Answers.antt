@@ -1,6 +1,5 @@
 -- `lost_at` meets its contract: the bytes that it compares are the distances at the place. Assumes nothing.
 use native.Mathlib.Omega.{arith}
-use borrow.Author.Rules.{rules}
 use Rattle.hop_changes.proofs.Sums.{lost_one}
 use Rattle.hop_changes.proofs.lost_at.Goals as goal
 

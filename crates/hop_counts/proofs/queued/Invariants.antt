@@ -1,9 +1,7 @@
-use mathlib.Core.Path.{◌≡◌, sym}
-use Prim.Native.Nat.{ℕ, ◌≤◌, ◌*◌, ◌-◌}
-use native.Mathlib.Omega.{arith}
-use borrow.Author.Rules.{rules}
+use mathlib.Core.Path.{◌≡◌}
+use Prim.Native.Nat.{ℕ, ◌≤◌, ◌*◌}
 use Rattle.hop_rule.specs.Words.{sum as sum_of}
-use Rattle.hop_counts.specs.Counts.{waiting_from, queued}
+use Rattle.hop_counts.specs.Counts.{waiting_from}
 use Rattle.hop_counts.proofs.queued.Given as goal
 
 abbrev pub invariant-loop-w : goal.invariant-loop-w

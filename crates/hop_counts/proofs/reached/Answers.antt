@@ -1,12 +1,9 @@
 -- `reached` meets its contract: after v turns the destinations below v are counted. Assumes nothing.
-use mathlib.Core.Path.{◌≡◌, sym}
-use Prim.Native.Nat.{◌≤◌, ◌-◌}
+use mathlib.Core.Path.{sym}
 use native.Mathlib.Omega.{arith}
-use borrow.Author.Rules.{rules}
-use Rattle.hop_rule.specs.Words.{sum as sum_of}
 use Rattle.hop_laws.proofs.Words.{sum_none}
 use Rattle.hop_cells.proofs.Loops.{sum_turn, sum_end}
-use Rattle.hop_counts.specs.Counts.{reaches, reached}
+use Rattle.hop_counts.specs.Counts.{reached}
 use Rattle.hop_counts.proofs.reached.Goals as goal
 
 pub loop-v-init : goal.loop-v-init

@@ -1,9 +1,7 @@
-use mathlib.Core.Path.{◌≡◌, sym}
-use Prim.Native.Nat.{◌≤◌, ◌-◌}
-use native.Mathlib.Omega.{arith}
-use borrow.Author.Rules.{rules}
+use mathlib.Core.Path.{◌≡◌}
+use Prim.Native.Nat.{◌≤◌}
 use Rattle.hop_rule.specs.Words.{sum as sum_of}
-use Rattle.hop_counts.specs.Counts.{reaches, reached}
+use Rattle.hop_counts.specs.Counts.{reaches}
 use Rattle.hop_counts.proofs.reached.Given as goal
 
 abbrev pub invariant-loop-v : goal.invariant-loop-v

@@ -1,11 +1,8 @@
-use mathlib.Core.Path.{◌≡◌, sym}
-use Prim.Native.Nat.{ℕ, ◌≤◌, ◌*◌, ◌-◌}
-use native.Mathlib.Omega.{arith}
-use borrow.Author.Rules.{rules}
+use mathlib.Core.Path.{◌≡◌}
+use Prim.Native.Nat.{ℕ, ◌≤◌, ◌*◌}
 use Rattle.hop_rule.specs.declared.Table.TheVariants.{Lengths}
 use Rattle.hop_rule.specs.Words.{sum as sum_of}
 use Rattle.hop_cells.specs.Cells.{get2}
-use Rattle.hop_counts.specs.Counts.{waiting_for}
 use Rattle.hop_counts.proofs.waiting_for.Given as goal
 
 abbrev pub invariant-loop-w : goal.invariant-loop-w

@@ -1,12 +1,7 @@
 -- `waiting_from` meets its contract: after x turns the queues to the receivers below x are counted. Assumes nothing.
-use mathlib.Core.Path.{◌≡◌, sym}
-use Prim.Native.Nat.{ℕ, ◌≤◌, ◌*◌, ◌-◌}
+use mathlib.Core.Path.{sym}
 use native.Mathlib.Omega.{arith}
-use borrow.Author.Rules.{rules}
-use Rattle.hop_rule.specs.declared.Table.TheVariants.{Lengths}
-use Rattle.hop_rule.specs.Words.{sum as sum_of}
 use Rattle.hop_laws.proofs.Words.{sum_none}
-use Rattle.hop_cells.specs.Cells.{get2}
 use Rattle.hop_cells.proofs.Loops.{sum_turn, sum_end}
 use Rattle.hop_counts.specs.Counts.{waiting_from}
 use Rattle.hop_counts.proofs.waiting_from.Goals as goal
