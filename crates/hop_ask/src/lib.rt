@@ -11,14 +11,14 @@ use hop_judge::{Judged, judge_ends, judge_pair, judge_state, judge_status};
 use hop_rule::Table;
 
 // A value, or the number of a refusal.
-#[derive(Drop)]
+#[derive(Clone, Copy)]
 pub enum Answer {
     Value(u32),
     Refused(u32),
 }
 
 // The hops and the neighbour to send through, or the number of a refusal.
-#[derive(Drop)]
+#[derive(Clone, Copy)]
 pub enum RouteAnswer {
     Way(u32, u32),
     Refused(u32),

@@ -25,7 +25,7 @@ use hop_why::WhyAnswer;
 
 // A number, and one answer.
 #[repr(C)]
-#[derive(Drop)]
+#[derive(Clone, Copy)]
 pub struct HopAnswer {
     pub code: u32,
     pub value: u32,
@@ -33,7 +33,7 @@ pub struct HopAnswer {
 
 // What a run did.
 #[repr(C)]
-#[derive(Drop)]
+#[derive(Clone, Copy)]
 pub struct HopRan {
     pub code: u32,
     pub passes: u32,
@@ -42,7 +42,7 @@ pub struct HopRan {
 
 // A way to a destination: its hops, and the neighbour to send through.
 #[repr(C)]
-#[derive(Drop)]
+#[derive(Clone, Copy)]
 pub struct HopWay {
     pub code: u32,
     pub distance: u32,
@@ -51,7 +51,7 @@ pub struct HopWay {
 
 // An event that was read; kind 0 at the plain end and at a refusal.
 #[repr(C)]
-#[derive(Drop)]
+#[derive(Clone, Copy)]
 pub struct HopEvent {
     pub code: u32,
     pub kind: u32,
@@ -61,7 +61,7 @@ pub struct HopEvent {
 
 // Why a node reaches a destination in so many hops, or not at all; kind 1 a path, 2 a set, 0 at a refusal.
 #[repr(C)]
-#[derive(Drop)]
+#[derive(Clone, Copy)]
 pub struct HopReason {
     pub code: u32,
     pub kind: u32,

@@ -10,14 +10,14 @@ use hop_judge::{
 };
 
 // What a pass answers: the entries delivered, or the number of a refusal.
-#[derive(Drop)]
+#[derive(Clone, Copy)]
 pub enum PassAnswer {
     Delivered(u32),
     Refused(u32),
 }
 
 // What a run answers: the passes made and the entries delivered, or the number of a refusal.
-#[derive(Drop)]
+#[derive(Clone, Copy)]
 pub enum RunAnswer {
     Made(u32, u32),
     Refused(u32),

@@ -19,7 +19,7 @@ use hop_rule::Table;
 use hop_sound::is_sound;
 
 // A call goes on with a state of so many nodes, or is refused with a number.
-#[derive(Drop)]
+#[derive(Clone, Copy)]
 pub enum Judged {
     Go(usize),
     Refused(u32),

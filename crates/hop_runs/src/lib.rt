@@ -15,7 +15,7 @@ use hop_rule::Table;
 use hop_steps::drain;
 
 // What a run did.
-#[derive(Drop)]
+#[derive(Clone, Copy)]
 pub struct Ran {
     pub passes: u32,
     pub deliveries: u32,

@@ -11,7 +11,7 @@ use hop_queues::{empty, held, offer_all, send, take_first};
 use hop_rule::Table;
 
 // What recompute finds for a destination.
-#[derive(Drop)]
+#[derive(Clone, Copy)]
 pub struct Best {
     pub distance: u8,
     pub downstream: u8,

@@ -15,7 +15,7 @@ use hop_runs::run;
 use hop_steps::{link_down, link_up};
 
 // What a trial tells of its pair.
-#[derive(Drop)]
+#[derive(Clone, Copy)]
 pub struct Found {
     pub passes: u32,
     pub deliveries: u32,

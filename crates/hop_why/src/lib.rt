@@ -17,7 +17,7 @@ use hop_judge::{Judged, judge_why};
 use hop_seen::{added, has};
 
 // A path or a set of so many bytes, or a refusal.
-#[derive(Drop)]
+#[derive(Clone, Copy)]
 pub enum WhyAnswer {
     Path(u32),
     Set(u32),
@@ -37,7 +37,7 @@ fn path(s: &[u8], list: &mut [u8], n: usize, u: usize, v: usize, hops: usize, at
 }
 
 // The nodes joined to u, as a set in one number, and how many they are. Its row is read once.
-#[derive(Drop)]
+#[derive(Clone, Copy)]
 struct Joined {
     set: u64,
     count: usize,
