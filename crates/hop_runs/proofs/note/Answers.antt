@@ -1,15 +1,10 @@
 -- `note` meets its contract: after i turns the first i lengths are noted and summed up. Assumes nothing.
-use mathlib.Core.Path.{◌≡◌, refl, sym, ◌∙◌}
-use Prim.Native.Nat.{ℕ, ◌≤◌, ◌<◌, ◌-◌, ◌*◌}
+use mathlib.Core.Path.{refl, sym, ◌∙◌}
 use native.Mathlib.Omega.{arith}
-use lib.ListN.{length, get_or, length-set}
+use lib.ListN.{length-set}
 use lib.Seq.{get_or-set_same, get_or-set_other}
-use borrow.Author.Rules.{rules}
 use borrow.Author.Count.{below_none, below_more}
-use Rattle.hop_rule.specs.declared.Table.TheVariants.{Lengths}
-use Rattle.hop_rule.specs.Words.{sum as sum_of}
 use Rattle.hop_laws.proofs.Words.{sum_none}
-use Rattle.hop_cells.specs.Cells.{get}
 use Rattle.hop_cells.proofs.Loops.{sum_turn, sum_end}
 use Rattle.hop_counts.proofs.Read.{queued_flat}
 use Rattle.hop_runs.proofs.note.Goals as goal

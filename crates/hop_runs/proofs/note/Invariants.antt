@@ -1,20 +1,13 @@
-use mathlib.Core.Path.{◌≡◌, refl, sym, ◌∙◌}
-use Prim.Native.Nat.{ℕ, ◌≤◌, ◌<◌, ◌-◌, ◌*◌}
-use native.Mathlib.Omega.{arith}
-use lib.ListN.{length, get_or, length-set}
-use lib.Seq.{get_or-set_same, get_or-set_other}
-use borrow.Author.Rules.{rules}
-use borrow.Author.Count.{below_none, below_more}
+use mathlib.Core.Path.{◌≡◌}
+use Prim.Native.Nat.{ℕ, ◌≤◌, ◌<◌, ◌*◌}
+use lib.ListN.{length, get_or}
 use Rattle.hop_rule.specs.declared.Table.TheVariants.{Lengths}
 use Rattle.hop_rule.specs.Words.{sum as sum_of}
-use Rattle.hop_laws.proofs.Words.{sum_none}
 use Rattle.hop_cells.specs.Cells.{get}
-use Rattle.hop_cells.proofs.Loops.{sum_turn, sum_end}
-use Rattle.hop_counts.proofs.Read.{queued_flat}
 use Rattle.hop_runs.proofs.note.Given as goal
 
 abbrev pub invariant-loop-i : goal.invariant-loop-i
-invariant-loop-i l = 
+invariant-loop-i l =
     (l.i ≤ l.n * l.n)
     × (length l.noted ≡ length l.initial.noted)
     × (l.sum ≤ 255 * l.i)

@@ -1,6 +1,5 @@
 -- `pass_eight` meets its contract: nothing is noted at any of the eight places, or each is looked at. Assumes nothing.
 use mathlib.Core.Path.{sym, ◌∙◌}
-use borrow.Author.Rules.{rules}
 use Rattle.hop_runs.proofs.Places.{nothing}
 use Rattle.hop_runs.proofs.pass_eight.Goals as goal
 

@@ -1,14 +1,8 @@
-use mathlib.Core.Path.{◌≡◌, refl, sym}
-use Prim.Native.Nat.{◌≤◌, ◌*◌, ◌-◌}
-use native.Mathlib.Omega.{arith}
+use mathlib.Core.Path.{◌≡◌}
+use Prim.Native.Nat.{◌≤◌, ◌*◌}
 use lib.ListN.{length}
-use borrow.Author.Rules.{rules}
 use Rattle.hop_rule.specs.Words.{loop}
-use Rattle.hop_laws.proofs.Words.{loop_none}
-use Rattle.hop_cells.proofs.Loops.{loop_end}
-use Rattle.hop_cells.proofs.Places.{square_most}
 use Rattle.hop_runs.specs.Runs.{pass_at}
-use Rattle.hop_runs.proofs.Places.{behind}
 use Rattle.hop_runs.proofs.pass_eights.Given as goal
 
 abbrev pub invariant-loop-g : goal.invariant-loop-g

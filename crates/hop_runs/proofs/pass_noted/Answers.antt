@@ -1,6 +1,5 @@
 -- `pass_noted` meets its contract: the queues in eights, and those behind the last eight. Assumes nothing.
 use native.Mathlib.Omega.{arith}
-use borrow.Author.Rules.{rules}
 use Rattle.hop_runs.proofs.Places.{behind}
 use Rattle.hop_runs.proofs.pass_noted.Goals as goal
 

@@ -1,14 +1,7 @@
 -- `pass_some` meets its contract: after j turns j queues from place i on have given up what is noted. Assumes nothing.
-use mathlib.Core.Path.{◌≡◌, refl, sym}
-use Prim.Native.Nat.{ℕ, ◌≤◌, ◌+◌, ◌-◌}
+use mathlib.Core.Path.{refl, sym}
 use native.Mathlib.Omega.{arith}
-use lib.ListN.{length}
-use borrow.Author.Rules.{rules}
-use Rattle.hop_rule.specs.Words.{loop}
 use Rattle.hop_laws.proofs.Words.{loop_none, loop_turn}
-use Rattle.hop_cells.proofs.Loops.{loop_end}
-use Rattle.hop_cells.proofs.Places.{square_most}
-use Rattle.hop_runs.specs.Runs.{pass_at}
 use Rattle.hop_runs.proofs.pass_some.Goals as goal
 
 pub loop-j-init : goal.loop-j-init
