@@ -68,4 +68,4 @@ module _ (kind : ℕ) {size : ℕ} (told : size ≡ known_length kind) where
 -- An event's own kind and numbers say the event.
 pub own_written : (e : Event) (out : List ℕ) {p : Numbers} → p ≡ numbers_of e → wrote_event p.kind p.first p.second out ≡ outcome (write_event e) [] out
 unfolding wrote_event known event_of kind_of body_of
-own_written e out h = ap (λ (p : Numbers). wrote_event p.kind p.first p.second out) h ∙ elim e [ Make n ↦ refl | Up a b ↦ refl | Down a b ↦ refl | Deliver w u ↦ refl | Pass ↦ refl | Notice a b ↦ refl ]
+own_written e out h = ap (λ (p : Numbers). wrote_event p.kind p.first p.second out) h ∙ elim e as (λ k. wrote_event (numbers_of k).kind (numbers_of k).first (numbers_of k).second out ≡ outcome (write_event k) [] out) [ Make n ↦ refl | Up a b ↦ refl | Down a b ↦ refl | Deliver w u ↦ refl | Pass ↦ refl | Notice a b ↦ refl ]
