@@ -27,7 +27,7 @@ fn place_after(reading: Reading, at: usize) -> usize
 }
 
 fn step_at(s: &[u8], at: usize) -> Step
-    ensures { result ≡ step_at s.now at }
+    ensures step { result ≡ step_at s.now at }
 {
     let reading = read_event(s, at);
     Step {
