@@ -102,6 +102,7 @@ fn write_one(kind: u16, a: u16, out: &mut [u8]) -> Written
     Written::Bytes(6)
 }
 
+#[tactic(auto, unfolding(crate::specs::Writing::tried, hop_rule::specs::Records::record_of, hop_rule::specs::Records::words))]
 fn write_two(kind: u16, a: u16, b: u16, out: &mut [u8]) -> Written
     ensures { Writes (tried (record_of kind (a ∷ b ∷ [])) out.old) result out.new }
 {

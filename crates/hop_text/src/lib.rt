@@ -80,6 +80,7 @@ pub fn put_event(
     put_number(out, next, queued, b'\n')
 }
 
+#[tactic(auto, unfolding(crate::specs::Text::downstream_end))]
 fn put_downstream(out: &mut [u8], at: usize, w: usize) -> usize
     requires { Ends (downstream_end w) at }
     ensures { Wrote (downstream_end w) out.old at out.new result }
