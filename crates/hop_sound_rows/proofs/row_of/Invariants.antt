@@ -1,3 +1,4 @@
+-- `row_of` meets its contract: after i turns the first i bytes are there. Assumes nothing.
 use mathlib.Core.Path.{◌≡◌}
 use Prim.Native.Nat.{ℕ, ◌≤◌, ◌<◌}
 use lib.ListN.{length, get_or}

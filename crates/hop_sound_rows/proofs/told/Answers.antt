@@ -3,7 +3,7 @@ use mathlib.Core.Path.{refl}
 use native.Mathlib.Omega.{arith}
 use borrow.Author.Rules.{rules}
 use Rattle.hop_rows.proofs.RowTests.{tells_below}
-use Rattle.hop_sound_rows.proofs.ToldRows.{told_none, told_more}
+use Rattle.hop_sound_rows.proofs.ToldRows.{told_none, told_more, told_done}
 use Rattle.hop_sound_rows.proofs.told.Goals as goal
 
 pub loop-p-init : goal.loop-p-init
@@ -15,3 +15,6 @@ loop-p-preserved c =
     let at = c.wide-v.ensures.0 in
     let below = l.invariant.2 _ c.loop-p-test.true in
     (omega arith, told_more l.invariant.1 at (omega (arith, at, below, c.requires.0)) refl, l.invariant.2)
+
+pub returns : goal.returns
+returns c = told_done c.loop-p.invariant.1 c.loop-p.invariant.0 c.loop-p-test.false
