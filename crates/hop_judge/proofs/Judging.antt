@@ -35,8 +35,12 @@ module _ (r : Refusal) (more : List Refusal) (m : ℕ) where
 
 -- After the first of them.
 module _ (rs : List Refusal) (m : ℕ) {j : Judged} (e : j ≡ verdict (judge rs) m) where
-  pub refused_already : (more : List Refusal) {k : ℕ} → j ≡ Refused k → j ≡ verdict (judge (rs ++ more)) m
-  refused_already more f = let (same, some) = stopped _ _ e f in e ∙ ap (λ c. verdict c m) (sym (judge_first rs more (λ z. some (same ∙ z))))
+  pub refused_already : (more : List Refusal) → ((n : ℕ) → j ≡ Go n → ⊥) → j ≡ verdict (judge (rs ++ more)) m
+  refused_already more f = go j refl
+    where
+      go : (i : Judged) → j ≡ i → j ≡ verdict (judge (rs ++ more)) m
+      go (Go n) g = absurd (f n g)
+      go (Refused k) g = let (same, some) = stopped _ _ e g in e ∙ ap (λ c. verdict c m) (sym (judge_first rs more (λ z. some (same ∙ z))))
 
   -- The code's test b is the refusal's, by the count that it goes on with.
   pub judged_next : (r : Refusal) → Numbered rs → {n : ℕ} → j ≡ Go n → {b : Bool} → (n ≡ m → b ≡ r.applies) → {i : Judged} → i ≡ verdict (if b then r.number else 0) n → i ≡ verdict (judge (rs ++ (r ∷ []))) m

@@ -1,0 +1,21 @@
+-- `judge_down` meets its contract: where the ends pass, it is refused if neither is up. Assumes nothing.
+use mathlib.Core.Path.{ap, ◌∙◌}
+use mathlib.Core.Bool.{not}
+use native.Mathlib.Omega.{arith}
+use Rattle.hop_rule.specs.Calls.{refusals}
+use Rattle.hop_judge.proofs.Judging.{refused_already, judged_next}
+use Rattle.hop_judge.proofs.Known.{ends_ready}
+use Rattle.hop_judge.proofs.Read.{either_read}
+use Rattle.hop_judge.proofs.judge_down.Goals as goal
+
+pub either_up-requires : goal.either_up-requires
+either_up-requires c = ends_ready _ _ _ _ c.judge_ends.ensures c.in-Go.is
+
+pub returns-in-Go : goal.returns-in-Go
+unfolding refusals
+returns-in-Go c =
+    judged_next _ _ c.judge_ends.ensures _ (omega arith) c.in-Go.is (λ claim. ap not (c.either_up.ensures ∙ either_read _ claim _ _)) c.unless.ensures
+
+pub returns-in_default : goal.returns-in_default
+unfolding refusals
+returns-in_default c = refused_already _ _ c.judge_ends.ensures _ c.in_default.not-Go

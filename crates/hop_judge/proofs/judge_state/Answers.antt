@@ -1,0 +1,29 @@
+-- `judge_state` meets its contract: a buffer that is not empty is judged as for making a state of as many nodes as it claims, and then by the check. Assumes nothing.
+use mathlib.Core.Path.{ap, ◌∙◌}
+use mathlib.Core.Bool.{not}
+use native.Mathlib.Omega.{arith}
+use borrow.Author.Tests.{eq-eqb}
+use Rattle.hop_rule.specs.Sound.{is_sound_as}
+use Rattle.hop_rule.specs.Calls.{empty}
+use Rattle.hop_judge.specs.Verdict.{verdict}
+use Rattle.hop_judge.proofs.Judging.{gone, first_refuses, refused_already, judged_next, claimed}
+use Rattle.hop_judge.proofs.Known.{room_made}
+use Rattle.hop_judge.proofs.judge_state.Goals as goal
+
+pub returns-then-s-eq0 : goal.returns-then-s-eq0
+unfolding verdict
+returns-then-s-eq0 c = first_refuses (empty c.args.s.now) _ _ (eq-eqb _ _ c.if-s-eq0.true)
+
+pub is_sound-requires : goal.is_sound-requires
+is_sound-requires c =
+    let same = (gone _ _ c.judge_make.ensures c.in-Go.is).1 in
+    rw same (room_made _ _ c.judge_make.ensures c.in-Go.is)
+
+pub returns-in-Go : goal.returns-in-Go
+returns-in-Go c =
+    let judged = claimed _ c.if-s-eq0.false c.nodes.ensures c.judge_make.ensures in
+    judged_next _ _ judged _ (omega arith) c.in-Go.is (λ claim. ap not (c.is_sound.ensures ∙ ap (λ m. is_sound_as m c.args.s.now) claim)) c.unless.ensures
+
+pub returns-in_default : goal.returns-in_default
+returns-in_default c =
+    refused_already _ _ (claimed _ c.if-s-eq0.false c.nodes.ensures c.judge_make.ensures) _ c.in_default.not-Go
