@@ -5,45 +5,45 @@ ghost use Rattle.std.specs.Prelude.{◌<◌};
 
 use hop_ask::{Answer, RouteAnswer};
 use hop_core::RunAnswer;
+use std::io;
 
 // A number and a blank, or a line feed.
-fn print(x: u32, ends: &[u8]) {
-    io::print_decimal(1, x as u64);
-    io::write_all(1, ends);
+fn print(rt: &impl Print, x: u32, ends: &str) -> io::Result<()> {
+    print!(rt; "{x}{ends}")
 }
 
 // Two numbers, as a run and a route have them.
-fn print_two(x: u32, y: u32, ends: &[u8]) {
-    print(x, b" ");
-    print(y, ends);
+fn print_two(rt: &impl Print, x: u32, y: u32, ends: &str) -> io::Result<()> {
+    print(rt, x, " ")?;
+    print(rt, y, ends)
 }
 
 // A refusal shows as its number behind a minus sign.
-fn print_refusal(c: u32, ends: &[u8]) {
-    io::write_all(1, b"-");
-    print(c, ends);
+fn print_refusal(rt: &impl Print, c: u32, ends: &str) -> io::Result<()> {
+    print!(rt; "-")?;
+    print(rt, c, ends)
 }
 
-fn print_answer(a: Answer, ends: &[u8]) {
+fn print_answer(rt: &impl Print, a: Answer, ends: &str) -> io::Result<()> {
     match a {
-        Answer::Value(x) => print(x, ends),
-        Answer::Refused(c) => print_refusal(c, ends),
+        Answer::Value(x) => print(rt, x, ends),
+        Answer::Refused(c) => print_refusal(rt, c, ends),
     }
 }
 
 // The passes made and the entries delivered.
-fn print_run(s: &mut [u8]) {
+fn print_run(rt: &impl Print, s: &mut [u8]) -> io::Result<()> {
     match hop_core::run(s, 255) {
-        RunAnswer::Made(passes, deliveries) => print_two(passes, deliveries, b"\n"),
-        RunAnswer::Refused(c) => print_refusal(c, b"\n"),
+        RunAnswer::Made(passes, deliveries) => print_two(rt, passes, deliveries, "\n"),
+        RunAnswer::Refused(c) => print_refusal(rt, c, "\n"),
     }
 }
 
 // The hops and the neighbour to send through.
-fn print_route(s: &[u8], u: usize, v: usize, ends: &[u8]) {
+fn print_route(rt: &impl Print, s: &[u8], u: usize, v: usize, ends: &str) -> io::Result<()> {
     match hop_ask::route(s, u, v) {
-        RouteAnswer::Way(distance, downstream) => print_two(distance, downstream, ends),
-        RouteAnswer::Refused(c) => print_refusal(c, ends),
+        RouteAnswer::Way(distance, downstream) => print_two(rt, distance, downstream, ends),
+        RouteAnswer::Refused(c) => print_refusal(rt, c, ends),
     }
 }
 
@@ -60,10 +60,10 @@ fn link_square(s: &mut [u8]) {
 }
 
 // At rest 0 reaches 3 in 2, downstream 1.
-fn square(s: &mut [u8]) {
+fn square(rt: &impl Print, s: &mut [u8]) -> io::Result<()> {
     link_square(s);
-    print_run(s);
-    print_route(s, 0, 3, b"\n");
+    print_run(rt, s)?;
+    print_route(rt, s, 0, 3, "\n")
 }
 
 // a is linked to each higher number below 40.
@@ -96,49 +96,50 @@ fn link_line(s: &mut [u8]) {
 }
 
 // The status record of node u, byte by byte.
-fn print_status(s: &[u8], u: usize) {
+fn print_status(rt: &impl Print, s: &[u8], u: usize) -> io::Result<()> {
     let mut out = [0u8; 14];
-    print_answer(hop_ask::status(s, u, &mut out), b" ");
+    print_answer(rt, hop_ask::status(s, u, &mut out), " ")?;
     let mut i = 0;
     while i < 13 {
-        print(wide(out[i]), b" ");
+        print(rt, wide(out[i]), " ")?;
         i += 1;
     }
-    print(wide(out[13]), b"\n");
+    print(rt, wide(out[13]), "\n")
 }
 
 fn wide(x: u8) -> u32 {
     x as u32
 }
 
-fn print_statuses(s: &[u8]) {
+fn print_statuses(rt: &impl Print, s: &[u8]) -> io::Result<()> {
     let mut u = 0;
     while u < 40 {
-        print_status(s, u);
+        print_status(rt, s, u)?;
         u += 1;
     }
+    Ok(())
 }
 
 // Nothing is delivered: 62,400 wait, 1,560 for each node.
-fn full(s: &mut [u8]) {
+fn full(rt: &impl Print, s: &mut [u8]) -> io::Result<()> {
     hop_core::make(s, 40);
     link_all(s);
-    print_answer(hop_ask::total_queued(s), b"\n");
-    print_statuses(s);
+    print_answer(rt, hop_ask::total_queued(s), "\n")?;
+    print_statuses(rt, s)
 }
 
 // A line of 40 to rest: its ends are 39 hops apart.
-fn line(s: &mut [u8]) {
+fn line(rt: &impl Print, s: &mut [u8]) -> io::Result<()> {
     hop_core::make(s, 40);
     link_line(s);
-    print_run(s);
-    print_route(s, 0, 39, b" ");
-    print_route(s, 39, 0, b"\n");
+    print_run(rt, s)?;
+    print_route(rt, s, 0, 39, " ")?;
+    print_route(rt, s, 39, 0, "\n")
 }
 
-fn main() {
+fn main(rt: HostRuntime) -> io::Result<()> {
     let mut s = [0u8; 198401];
-    square(&mut s);
-    full(&mut s);
-    line(&mut s);
+    square(&rt, &mut s)?;
+    full(&rt, &mut s)?;
+    line(&rt, &mut s)
 }

@@ -1,6 +1,8 @@
 // The program, run on the worked input of document 01.
 #![tactic(auto)]
 
-fn main() {
-    hop_main::run();
+use std::io;
+
+fn main(rt: HostRuntime) -> io::Result<()> {
+    hop_main::run(&rt)
 }
