@@ -2,8 +2,8 @@
 # Needs cargo, a C and a C++ compiler and Python 3. The archive and the program are for x86-64: elsewhere they are
 # emulated (make/emulated.mk), and what times them or watches them run is not done.
 # The main Makefile includes it; alone it is `make -f make/harness.mk TARGET` in the root of the repository.
-.PHONY: compare program-test selftest must-notice valgrind asan bench bench-test before example example-ring \
-	example-worth example-why example-notice exports header header-c header-cxx rust-test native always
+.PHONY: archive program compare program-test selftest must-notice valgrind asan bench bench-test before example \
+	example-ring example-worth example-why example-notice exports header header-c header-cxx rust-test native always
 
 # The archive under test, and the program. Either can be another one, which is then taken as it is.
 NATIVE := $(filter x86_64,$(shell uname -m))
@@ -22,13 +22,26 @@ X86_LINKED = $(CC) $(C_FLAGS)
 LINKED = HOP_ARCHIVE='$(HOP_ARCHIVE)' CARGO_TARGET_DIR=build/cargo
 UNLINKED = HOP_ARCHIVE=none CARGO_TARGET_DIR=build/unlinked
 
-# Written anew where a source is younger; a folder is younger where a file came or went.
-target/staticlib/libhop_c.a: crates.txt $(shell find crates -type d -o -name '*.rt' -o -name '*.antt')
-	@rt staticlib hop_c
+archive: target/staticlib/libhop_c.a
 
-# rt itself finds out whether a source changed.
+program: target/bin/hop_program
+
+# With MADE=1 both are what stands there: the gate has made them from what it proved.
+ifndef MADE
+# Written anew where a source is younger; a folder is younger where a file came or went. rt proves first what it has not
+# proved yet, library by library.
+SOURCES := $(wildcard crates/*/src crates/*/specs crates/*/proofs)
+target/staticlib/libhop_c.a: crates.txt $(shell find $(SOURCES) -type d -o -name '*.rt' -o -name '*.antt')
+	@cd crates/hop_c && rt lib
+	@mkdir -p $(@D)
+	@cp crates/hop_c/out/libhop_c.a $@
+
+# rt itself finds out whether a source changed. It builds the program only to run it, here on the worked script.
 target/bin/hop_program: always
-	@rt check hop_program
+	@cd crates/hop_program && rt run < stdin > /dev/null
+	@mkdir -p $(@D)
+	@cmp -s crates/hop_program/out/hop_program $@ || cp crates/hop_program/out/hop_program $@
+endif
 
 ifndef NATIVE
 include make/emulated.mk

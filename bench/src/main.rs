@@ -79,7 +79,7 @@ fn main() -> ExitCode {
     let core = if flags.is_empty() { core() } else { Some(beside) };
     let word = words.first().map_or("", String::as_str);
     let Some(core) = core else {
-        eprintln!("built without the archive: there is no core to time (rt staticlib hop_c writes it)");
+        eprintln!("built without the archive: there is no core to time (make archive writes it)");
         return ExitCode::from(2);
     };
     println!("One process, turn and turn about, best of many; every answer and byte was equal first.");

@@ -24,7 +24,7 @@ fn main() -> ExitCode {
     } else if let Some(core) = core() {
         compare(core, &options)
     } else {
-        eprintln!("built without the archive: there is no core to compare (rt staticlib hop_c writes it)");
+        eprintln!("built without the archive: there is no core to compare (make archive writes it)");
         return ExitCode::from(2);
     };
     println!("{} passed, {} failed", count.passed, count.failed);

@@ -15,7 +15,7 @@ fn main() {
     if !archive.is_file() {
         // Checking and documenting need no archive; only linking does.
         println!(
-            "cargo:warning=no archive at {}: set HOP_ARCHIVE, or write it with 'rt staticlib hop_c'",
+            "cargo:warning=no archive at {}: set HOP_ARCHIVE, or write it with 'make archive'",
             archive.display()
         );
         return;

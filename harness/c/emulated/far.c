@@ -1,5 +1,5 @@
 /* far.c: hop.h's calls on a machine that is not x86-64: each is made on the archive for x86-64, which served.c holds
- * under the kit's emulator. Uses turn.h and the C library. EMULATOR and SERVED are the two programs' full paths.
+ * under an emulator. Uses turn.h and the C library. EMULATOR and SERVED are the two programs' full paths.
  * Where anything goes wrong on the way the process ends, as served.c did where a signal ended it; no answer is made
  * up. Calls of several threads take turns.
  */
