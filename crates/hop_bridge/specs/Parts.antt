@@ -1,6 +1,5 @@
 -- A state in the middle of telling the neighbours. Used by the law of that move.
-use Rattle.std.specs.Prelude.{◌&&◌, ℕ, eqb, ltb}
-use Rattle.hop_rule.specs.Words.{if◌then◌else◌}
+use Rattle.std.specs.Prelude.{◌&&◌, ℕ, eqb, ltb, if◌then◌else◌}
 use Rattle.hop_rule.specs.State.{State, Entry, with_queues}
 use Rattle.hop_rule.specs.Rule.{sends, send}
 

@@ -1,6 +1,5 @@
 -- What C callers get of a call's outcome: its number and its answers in a struct, a place for each. Answered, Ran, Wrote, Worth, Why and Read are the contracts; the calls that answer a number alone have hop_core's Told.
-use Rattle.std.specs.Prelude.{◌≡◌, List, ℕ, ℤ, get_or}
-use Rattle.hop_rule.specs.Words.{if◌then◌else◌}
+use Rattle.std.specs.Prelude.{◌≡◌, List, ℕ, ℤ, get_or, if◌then◌else◌}
 use Rattle.hop_rule.specs.declared.Reading.{Reading}
 use Rattle.hop_rule.specs.Stored.{size}
 use Rattle.hop_rule.specs.Records.{number_of, answers_of, read_event, place_after}

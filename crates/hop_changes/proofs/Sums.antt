@@ -1,4 +1,5 @@
 -- What is counted place by place is what R-1 counts over ordered pairs; and a running signed sum with one difference more is the difference of the longer sums. Assumes nothing.
+use Rattle.std.specs.Prelude.{if◌then◌else◌}
 use mathlib.Core.Path.{◌≡◌, refl, sym, ap, subst, ◌∙◌}
 use mathlib.Core.Bool.{Bool, true, false, not, cond, ◌&&◌}
 use mathlib.Core.List.{List}
@@ -12,7 +13,7 @@ use mir.Syntax.{w32}
 use mir.Val.{SFits, to_z, of_z}
 use mir.ValLaws.{to_z-of_z}
 use Rattle.hop_rule.specs.declared.Table.TheVariants.{Distances}
-use Rattle.hop_rule.specs.Words.{if◌then◌else◌, sum}
+use Rattle.hop_rule.specs.Words.{sum}
 use Rattle.hop_rule.specs.Stored.{flat}
 use Rattle.hop_rule.specs.Worth as worth
 use Rattle.hop_laws.proofs.Tests.{tells_lt, tells_and}

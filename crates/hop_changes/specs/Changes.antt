@@ -1,7 +1,6 @@
 -- What is counted of the ordered pair at place i of the distances of two stored states of n nodes, s and t. Used by the code's own contracts; a buyer needs none of it.
-use Rattle.std.specs.Prelude.{not, ◌&&◌, List, ℕ, ltb}
+use Rattle.std.specs.Prelude.{not, ◌&&◌, List, ℕ, ltb, if◌then◌else◌}
 use Rattle.hop_rule.specs.declared.Table.TheVariants.{Distances}
-use Rattle.hop_rule.specs.Words.{if◌then◌else◌}
 use Rattle.hop_cells.specs.Cells.{get}
 
 -- 1 where it has a route in s and none in t.

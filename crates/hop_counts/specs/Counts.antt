@@ -1,8 +1,8 @@
 -- What the code counts in the bytes of a state: entries that wait, and destinations that a node reaches. Total, as reading a byte is; on sound bytes each count is the rule's.
 -- Used by the code's own definitions; a buyer needs none of it.
-use Rattle.std.specs.Prelude.{not, ◌&&◌, List, ℕ, eqb, ltb}
+use Rattle.std.specs.Prelude.{not, ◌&&◌, List, ℕ, eqb, ltb, if◌then◌else◌}
 use Rattle.hop_rule.specs.declared.Table.TheVariants.{Distances, Lengths}
-use Rattle.hop_rule.specs.Words.{if◌then◌else◌, sum}
+use Rattle.hop_rule.specs.Words.{sum}
 use Rattle.hop_cells.specs.Cells.{get2}
 
 -- The entries that wait: for node u, from node u, in the whole state.

@@ -1,4 +1,5 @@
 -- How the code's tests meet the list of refusals: what the first of them refuse is refused; where none of them applies, the next decides. So an answer tells the call's outcome. Assumes nothing.
+use Rattle.std.specs.Prelude.{if◌then◌else◌}
 use mathlib.Core.Path.{◌≡◌, refl, sym, ap, ap₂, ◌∙◌}
 use mathlib.Core.Logic.{◌≢◌}
 use mathlib.Core.Bool.{Bool, true, false}
@@ -7,7 +8,6 @@ use Prim.Native.Nat.{ℕ, zero, suc}
 use native.Mathlib.Omega.{arith}
 use lib.ListN.{length}
 use borrow.Author.Tests.{ne_eqb}
-use Rattle.hop_rule.specs.Words.{if◌then◌else◌}
 use Rattle.hop_rule.specs.Stored.{size, nodes}
 use Rattle.hop_rule.specs.Calls.{Call, make, Refusal, judge, empty, bad_count, short, refusals, refused, done, outcome}
 use Rattle.hop_laws.proofs.Calls.{judge_applies, judge_next, judge_first, judge_passed, Numbered, outcome_done, outcome_refused}

@@ -1,7 +1,7 @@
 // The ends of links (02, R-5): each has a byte of its own. What is asked about the two of a pair, and about those of all pairs.
 
-ghost use Rattle.std.specs.Prelude.{◌≡◌, not, ◌||◌, ◌<◌, ◌≤◌};
-ghost use Rattle.hop_rule.specs.Words.{if◌then◌else◌, every};
+ghost use Rattle.std.specs.Prelude.{◌≡◌, not, ◌||◌, ◌<◌, ◌≤◌, if◌then◌else◌};
+ghost use Rattle.hop_rule.specs.Words.{every};
 ghost use Rattle.hop_rule.specs.Stored.{read_as};
 ghost use Rattle.hop_rule.specs.Rule as rule;
 ghost use Rattle.hop_rule.specs.Notice.{one_ended, ends_agree};

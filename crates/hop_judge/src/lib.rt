@@ -3,8 +3,7 @@
 
 mod ends;
 
-ghost use Rattle.std.specs.Prelude.{◌≡◌, [], ◌∷◌, not, ◌<◌, eqb};
-ghost use Rattle.hop_rule.specs.Words.{if◌then◌else◌};
+ghost use Rattle.std.specs.Prelude.{◌≡◌, [], ◌∷◌, not, ◌<◌, eqb, if◌then◌else◌};
 ghost use Rattle.hop_rule.specs.Stored as stored;
 ghost use Rattle.hop_rule.specs.Calls.{judge, refusals, on_state, no_node, one_node, is_up, not_sending, not_at_rest, short, make, up, down, notice, deliver, status};
 ghost use Rattle.hop_rule.specs.Worth.{worth_refusals};

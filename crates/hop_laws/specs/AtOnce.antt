@@ -1,6 +1,6 @@
 -- 01's link down, as it was before R-5: both ends see it at one moment, and a node sends by its own end alone. What two notices come to is said by it, and nothing computes by it. Uses hop_rule's Words, State and Rule.
-use Rattle.std.specs.Prelude.{not, ◌&&◌, [], ℕ, eqb}
-use Rattle.hop_rule.specs.Words.{if◌then◌else◌, loop}
+use Rattle.std.specs.Prelude.{not, ◌&&◌, [], ℕ, eqb, if◌then◌else◌}
+use Rattle.hop_rule.specs.Words.{loop}
 use Rattle.hop_rule.specs.State.{State, Entry, with_link, with_route, with_views, with_queues, with_queue}
 use Rattle.hop_rule.specs.Rule.{up, distance_of, downstream_of, send}
 

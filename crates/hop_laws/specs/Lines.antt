@@ -1,6 +1,6 @@
 -- R-1's lines as they come one behind the other, and the pairs that have one, counted in the same order. May be used by every law about them, and by the contracts of the code that writes them.
-use Rattle.std.specs.Prelude.{List, [], ◌∷◌, ℕ}
-use Rattle.hop_rule.specs.Words.{if◌then◌else◌, sum, joined}
+use Rattle.std.specs.Prelude.{List, [], ◌∷◌, ℕ, if◌then◌else◌}
+use Rattle.hop_rule.specs.Words.{sum, joined}
 use Rattle.hop_rule.specs.State.{State}
 use Rattle.hop_rule.specs.Worth.{Line, line, tried}
 

@@ -1,9 +1,9 @@
 -- What the code does to the bytes of one queue. Every definition is total: where bytes are not sound it does something, which no public contract speaks of.
 -- n comes first, then the indices, and the bytes last, so that a definition without its last two arguments is the body of a loop. Used by the code's own definitions; a buyer needs none of it.
-use Rattle.std.specs.Prelude.{◌&&◌, List, ℕ, ◌+◌, min, eqb, ltb}
+use Rattle.std.specs.Prelude.{◌&&◌, List, ℕ, ◌+◌, min, eqb, ltb, if◌then◌else◌}
 use Rattle.hop_rule.specs.declared.Table.{Table}
 use Rattle.hop_rule.specs.declared.Table.TheVariants.{Distances, Lengths, Destinations, Values}
-use Rattle.hop_rule.specs.Words.{if◌then◌else◌, loop, first}
+use Rattle.hop_rule.specs.Words.{loop, first}
 use Rattle.hop_cells.specs.Cells.{get2, get3, put2, put3, fill}
 
 -- The entries that the queue from w to u holds: a length past n counts as n.

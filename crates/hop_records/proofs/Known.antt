@@ -1,4 +1,5 @@
 -- What a kind tells: whether it is known, its length, and the record of its event, with as many numbers as the length says. Assumes nothing.
+use Rattle.std.specs.Prelude.{if◌then◌else◌}
 use mathlib.Core.Path.{◌≡◌, refl, ap, ◌∙◌}
 use mathlib.Core.Logic.{◌≢◌}
 use mathlib.Core.Bool.{Bool, true, false}
@@ -8,7 +9,6 @@ use native.Mathlib.Omega.{arith}
 use lib.Dec.{eqb}
 use Rattle.hop_rule.specs.declared.Event.{Event}
 use Rattle.hop_rule.specs.declared.Event.TheVariants.{Make, Up, Down, Deliver, Pass, Notice}
-use Rattle.hop_rule.specs.Words.{if◌then◌else◌}
 use Rattle.hop_rule.specs.Records.{record_of, kind_of, body_of, event_record, known, length_of, event_of}
 use Rattle.hop_rule.specs.Calls.{write_event, refused, outcome}
 use Rattle.hop_laws.proofs.Records.{kind_small, known_kind, length_event}

@@ -1,7 +1,6 @@
 -- 01, 'Records': what the enum `Written` says in the words of 'Refusal numbers', an event in plain numbers, and what writing a record gives. Uses hop_rule's Records and Calls.
-use Rattle.std.specs.Prelude.{◌≡◌, List, [], ◌∷◌, ℕ, ltb, length, get_or}
+use Rattle.std.specs.Prelude.{◌≡◌, List, [], ◌∷◌, ℕ, ltb, length, get_or, if◌then◌else◌}
 use Rattle.hop_rule.specs.declared.Event.{Event}
-use Rattle.hop_rule.specs.Words.{if◌then◌else◌}
 use Rattle.hop_rule.specs.Records.{kind_of, body_of, known, length_of, event_of}
 use Rattle.hop_rule.specs.Calls.{write_event, Outcome, refused, recorded, outcome}
 use Rattle.hop_records.specs.declared.Numbers.{Numbers}

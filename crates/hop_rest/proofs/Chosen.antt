@@ -1,4 +1,5 @@
 -- Those numbers below k that pass a test, as R-3's set has them: they are just these, they ascend, and where one is left out there are fewer than k. Each number more is taken, behind all others, or left out. Assumes nothing.
+use Rattle.std.specs.Prelude.{if◌then◌else◌}
 use mathlib.Core.Path.{◌≡◌, refl, sym, ap, subst, ◌∙◌}
 use mathlib.Core.Logic.{◌⊎◌, inl, inr}
 use mathlib.Core.Bool.{Bool, true, false}
@@ -8,7 +9,7 @@ use native.Mathlib.Nat.{le_refl}
 use native.Mathlib.Decide.{ℕ_discrete}
 use native.Mathlib.Omega.{arith}
 use lib.ListN.{length, length-append}
-use Rattle.hop_rule.specs.Words.{if◌then◌else◌, joined, those}
+use Rattle.hop_rule.specs.Words.{joined, those}
 use Rattle.hop_laws.proofs.Tests.{Tells, true_not_false, tells_false, decides}
 use Rattle.hop_laws.proofs.Words.{those_so, those_not, those_most}
 use Rattle.hop_rest.specs.Why.{In, Ascends}

@@ -1,4 +1,5 @@
 -- Where R-1's lines stand: all lines begin with those of the lower nodes, and the lines of one node with those to its lower ends; in the list each line takes seven numbers. And that each is the line of a pair that is tried. Assumes nothing.
+use Rattle.std.specs.Prelude.{if◌then◌else◌}
 use mathlib.Core.Path.{◌≡◌, refl, ap, sym, subst, ◌∙◌}
 use mathlib.Core.Bool.{Bool, true, false}
 use mathlib.Core.List.{List, [], ◌∷◌, ◌++◌, append_assoc}
@@ -8,7 +9,7 @@ use native.Mathlib.Omega.{arith}
 use lib.IntN.{ℤ}
 use lib.ListN.{length, take, drop, length-append}
 use lib.Seq.{drop-append_seam}
-use Rattle.hop_rule.specs.Words.{if◌then◌else◌, joined}
+use Rattle.hop_rule.specs.Words.{joined}
 use Rattle.hop_rule.specs.State.{State}
 use Rattle.hop_rule.specs.Records.{written}
 use Rattle.hop_rule.specs.Worth.{Line, line, tried, lines, seven, numbers}

@@ -1,4 +1,5 @@
 -- R-1's call on bytes. Lines do not tell apart what is the same below n, so no byte behind the form is looked at; and where the call is done the state is sound and at rest, so that its lines tell, and a copy of its form is accepted. Assumes nothing.
+use Rattle.std.specs.Prelude.{if◌then◌else◌}
 use mathlib.Core.Path.{◌≡◌, refl, sym, ap, ◌∙◌}
 use mathlib.Core.Bool.{Bool, true, false, cond}
 use mathlib.Core.List.{List, [], ◌∷◌, ◌++◌}
@@ -10,7 +11,7 @@ use lib.Dec.{eqb}
 use lib.IntN.{ℤ}
 use lib.ListN.{length, take, drop, take-append-drop}
 use lib.Seq.{length-take-le, take-append-le}
-use Rattle.hop_rule.specs.Words.{if◌then◌else◌, joined}
+use Rattle.hop_rule.specs.Words.{joined}
 use Rattle.hop_rule.specs.State.{State}
 use Rattle.hop_rule.specs.Rule.{link_up, delivered}
 use Rattle.hop_rule.specs.Notice.{link_down}

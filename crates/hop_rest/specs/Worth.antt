@@ -1,6 +1,5 @@
 -- Why a planner may believe R-1's lines: of every state that is sound and at rest, what holds of each line whatever links elsewhere have just one end up, and what holds where there is none: its numbers are then about true hop counts before and after. And which pairs have a line. Uses Walks, Rest, Accepted, hop_rule's Notice and Worth, and hop_laws' Lines.
-use Rattle.std.specs.Prelude.{◌≡◌, ◌⊎◌, ◌≢◌, Bool, true, not, ◌&&◌, List, ◌∷◌, ◌++◌, ℕ, ◌+◌, ◌*◌, ◌-◌, ◌≤◌, ◌<◌, ℤ, pos, nat_abs, length, take, drop, ◌≤ℤ◌, ◌<ℤ◌}
-use Rattle.hop_rule.specs.Words.{if◌then◌else◌}
+use Rattle.std.specs.Prelude.{◌≡◌, ◌⊎◌, ◌≢◌, Bool, true, not, ◌&&◌, List, ◌∷◌, ◌++◌, ℕ, ◌+◌, ◌*◌, ◌-◌, ◌≤◌, ◌<◌, ℤ, pos, nat_abs, length, take, drop, ◌≤ℤ◌, ◌<ℤ◌, if◌then◌else◌}
 use Rattle.hop_rule.specs.State.{State}
 use Rattle.hop_rule.specs.Sound.{Sound}
 use Rattle.hop_rule.specs.Notice.{EndsAgree}

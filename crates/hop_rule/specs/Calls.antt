@@ -1,9 +1,8 @@
 -- 01, 'Refusal numbers', and every public call: its refusals in the order in which they are judged, and what it gives where none applies.
 -- A call has a buffer s, which holds the state, and an output out, [] where it writes none. Uses Rule, Notice, Route, Stored, Sound and Records.
-use Rattle.std.specs.Prelude.{Bool, not, ◌||◌, List, [], ◌∷◌, ◌++◌, ℕ, eqb, ltb, leb, length, get_or, drop}
+use Rattle.std.specs.Prelude.{Bool, not, ◌||◌, List, [], ◌∷◌, ◌++◌, ℕ, eqb, ltb, leb, length, get_or, drop, if◌then◌else◌}
 use Rattle.hop_rule.specs.declared.Event.{Event}
 use Rattle.hop_rule.specs.State.{State}
-use Rattle.hop_rule.specs.Words.{if◌then◌else◌}
 use Rattle.hop_rule.specs.Rule as rule
 use Rattle.hop_rule.specs.Notice as ends
 use Rattle.hop_rule.specs.Route as question

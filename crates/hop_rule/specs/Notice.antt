@@ -1,6 +1,5 @@
 -- 02, R-5, 'The two ends do not notice together': each end of a link has a byte of its own and its own notice that the link is lost; and link down by notices. Uses Words, State, Rule and, for going through pairs, Sound.
-use Rattle.std.specs.Prelude.{◌≡◌, Bool, not, [], ℕ, ◌<◌, eqb, ltb}
-use Rattle.hop_rule.specs.Words.{if◌then◌else◌}
+use Rattle.std.specs.Prelude.{◌≡◌, Bool, not, [], ℕ, ◌<◌, eqb, ltb, if◌then◌else◌}
 use Rattle.hop_rule.specs.State.{State, with_link, with_views, with_queue}
 use Rattle.hop_rule.specs.Rule.{up, recompute_all}
 use Rattle.hop_rule.specs.Sound.{pairs}

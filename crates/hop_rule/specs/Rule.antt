@@ -1,6 +1,6 @@
 -- 01, 'The rule': Tajibnapis's rule as functions from a state to a state, in 01's order. Uses State, Words and, for what a route is, Route.
-use Rattle.std.specs.Prelude.{Bool, not, ◌&&◌, List, [], ◌∷◌, ℕ, zero, suc, min, eqb, length}
-use Rattle.hop_rule.specs.Words.{if◌then◌else◌, loop, sum, listed, first}
+use Rattle.std.specs.Prelude.{Bool, not, ◌&&◌, List, [], ◌∷◌, ℕ, zero, suc, min, eqb, length, if◌then◌else◌}
+use Rattle.hop_rule.specs.Words.{loop, sum, listed, first}
 use Rattle.hop_rule.specs.State.{State, Entry, with_link, with_route, with_view, with_queues, with_queue}
 use Rattle.hop_rule.specs.Route.{route, routed}
 

@@ -1,6 +1,5 @@
 -- 01, 'What the core covers': what a step machine over n nodes holds, and a state with one part of it set. Uses Words.
-use Rattle.std.specs.Prelude.{◌&&◌, List, ℕ, eqb}
-use Rattle.hop_rule.specs.Words.{if◌then◌else◌}
+use Rattle.std.specs.Prelude.{◌&&◌, List, ℕ, eqb, if◌then◌else◌}
 
 -- An announcement that waits: a destination, and the sender's distance to it.
 pub record Entry : Type 0 where

@@ -1,6 +1,6 @@
 -- 02, R-3, 'Tell the night desk why': the reason why a node reaches a destination in so many hops or not at all, as bytes, and the call. Uses Words, State, Route, Stored, Records and Calls.
-use Rattle.std.specs.Prelude.{List, [], ◌∷◌, ◌++◌, ℕ, zero, suc, eqb, length}
-use Rattle.hop_rule.specs.Words.{if◌then◌else◌, those}
+use Rattle.std.specs.Prelude.{List, [], ◌∷◌, ◌++◌, ℕ, zero, suc, eqb, length, if◌then◌else◌}
+use Rattle.hop_rule.specs.Words.{those}
 use Rattle.hop_rule.specs.State.{State}
 use Rattle.hop_rule.specs.Route.{route, routed}
 use Rattle.hop_rule.specs.Stored.{read}

@@ -1,6 +1,6 @@
 -- 02, R-1, 'What is each link worth?': a trial for every pair of nodes, a line of seven signed numbers about each, and the call. Uses Words, State, Rule, Notice, Route, Stored, Records and Calls.
-use Rattle.std.specs.Prelude.{Bool, not, ◌&&◌, List, [], ◌∷◌, ◌++◌, ℕ, eqb, ltb, ℤ, pos, ◌-ℤ◌, length, take}
-use Rattle.hop_rule.specs.Words.{if◌then◌else◌, sum, joined}
+use Rattle.std.specs.Prelude.{Bool, not, ◌&&◌, List, [], ◌∷◌, ◌++◌, ℕ, eqb, ltb, ℤ, pos, ◌-ℤ◌, length, take, if◌then◌else◌}
+use Rattle.hop_rule.specs.Words.{sum, joined}
 use Rattle.hop_rule.specs.State.{State}
 use Rattle.hop_rule.specs.Rule.{up, link_up, passes, made, delivered}
 use Rattle.hop_rule.specs.Notice.{one_ended, link_down}

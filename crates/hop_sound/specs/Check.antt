@@ -1,7 +1,7 @@
 -- The soundness check as the code makes it, row by row. proofs/Sound.antt shows that it is 01's sound. A buyer needs none of it.
-use Rattle.std.specs.Prelude.{Bool, ◌&&◌, List, ℕ, ◌+◌, ◌*◌, ◌-◌, eqb, ltb, leb}
+use Rattle.std.specs.Prelude.{Bool, ◌&&◌, List, ℕ, ◌+◌, ◌*◌, ◌-◌, eqb, ltb, leb, if◌then◌else◌}
 use Rattle.hop_rule.specs.declared.Table.TheVariants.{Links, Distances, Downstreams, Views, Lengths, Destinations, Values}
-use Rattle.hop_rule.specs.Words.{if◌then◌else◌, every}
+use Rattle.hop_rule.specs.Words.{every}
 use Rattle.hop_cells.specs.Cells.{get2, get3}
 use Rattle.hop_rows.specs.Rows.{row, all_are, both_are, all_below}
 use Rattle.hop_sound_pairs.specs.Pairs.{pair_sound}

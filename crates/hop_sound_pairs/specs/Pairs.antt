@@ -1,7 +1,6 @@
 -- What the soundness check finds of two nodes, row by row. Used by hop_sound, which shows that the whole check is 01's sound. A buyer needs none of it.
-use Rattle.std.specs.Prelude.{Bool, not, ◌&&◌, ◌||◌, List, ℕ, ◌+◌, ◌*◌, eqb, leb}
+use Rattle.std.specs.Prelude.{Bool, not, ◌&&◌, ◌||◌, List, ℕ, ◌+◌, ◌*◌, eqb, leb, if◌then◌else◌}
 use Rattle.hop_rule.specs.declared.Table.TheVariants.{Links, Distances, Downstreams, Views, Lengths, Destinations, Values}
-use Rattle.hop_rule.specs.Words.{if◌then◌else◌}
 use Rattle.hop_cells.specs.Cells.{get2}
 use Rattle.hop_rows.specs.Rows.{row, all_are, all_below, same}
 use Rattle.hop_seen.specs.Seen.{differing}

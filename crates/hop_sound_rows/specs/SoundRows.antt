@@ -1,6 +1,6 @@
 -- What the soundness check, and nothing else, finds out about rows of bytes: where they rise or count up, what views allow, and views once what waits is delivered. A buyer needs none of it.
-use Rattle.std.specs.Prelude.{Bool, not, ◌&&◌, ◌≡◌, List, ℕ, zero, suc, ◌+◌, ◌-◌, ◌<◌, eqb, ltb, leb, length, get_or}
-use Rattle.hop_rule.specs.Words.{if◌then◌else◌, every}
+use Rattle.std.specs.Prelude.{Bool, not, ◌&&◌, ◌≡◌, List, ℕ, zero, suc, ◌+◌, ◌-◌, ◌<◌, eqb, ltb, leb, length, get_or, if◌then◌else◌}
+use Rattle.hop_rule.specs.Words.{every}
 use Rattle.hop_rows.specs.Rows.{byte}
 
 -- k times a byte is below the next one. Then no two of these k + 1 are equal.

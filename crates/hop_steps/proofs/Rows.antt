@@ -1,4 +1,5 @@
 -- The rows in which the best of all destinations are found side by side: a place is looked at and the others stay. Assumes nothing.
+use Rattle.std.specs.Prelude.{if◌then◌else◌}
 use mathlib.Core.Path.{◌≡◌, refl}
 use mathlib.Core.Bool.{true, false}
 use mathlib.Core.List.{List}
@@ -12,7 +13,6 @@ use lib.Seq.{get_or-set_same, get_or-set_other}
 use borrow.Author.Count.{below_more}
 use borrow.Author.Tests.{lt-ltb, le-ltb}
 use Rattle.hop_rule.specs.declared.Table.TheVariants.{Views}
-use Rattle.hop_rule.specs.Words.{if◌then◌else◌}
 use Rattle.hop_cells.specs.Cells.{get3}
 use Rattle.hop_steps.specs.declared.Best.{Best}
 use Rattle.hop_steps.specs.Steps.{up, nearer, choose, lesser, giver, Looked}

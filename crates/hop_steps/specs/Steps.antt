@@ -1,9 +1,9 @@
 -- What the code does to the bytes at each event, in the order of hop_rule's Rule and Notice. Every definition is total, as those of one queue are; on sound bytes each is the rule's.
 -- Used by the code's own definitions; a buyer needs none of it.
-use Rattle.std.specs.Prelude.{Bool, ◌&&◌, List, ◌≡◌, ℕ, ◌+◌, ◌-◌, ◌≤◌, min, eqb, ltb, get_or, set}
+use Rattle.std.specs.Prelude.{Bool, ◌&&◌, List, ◌≡◌, ℕ, ◌+◌, ◌-◌, ◌≤◌, min, eqb, ltb, get_or, set, if◌then◌else◌}
 use Rattle.hop_rule.specs.declared.Table.{Table}
 use Rattle.hop_rule.specs.declared.Table.TheVariants.{Links, Distances, Downstreams, Views, Lengths, Destinations, Values}
-use Rattle.hop_rule.specs.Words.{if◌then◌else◌, loop}
+use Rattle.hop_rule.specs.Words.{loop}
 use Rattle.hop_cells.specs.Cells.{cells, put, get2, get3, put2, put3, fill}
 use Rattle.hop_queues.specs.Queues.{held, send, take_first, offer_all, empty}
 use Rattle.hop_steps.specs.declared.Best.{Best}

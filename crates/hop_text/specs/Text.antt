@@ -1,6 +1,5 @@
 -- 01, 'The program': the lines that it prints, as bytes in ASCII. Uses nothing of the core but the word if_then_else_.
-use Rattle.std.specs.Prelude.{List, [], ◌∷◌, ◌++◌, ℕ, zero, suc, ◌+◌, ◌/◌, ◌%◌, eqb, ltb}
-use Rattle.hop_rule.specs.Words.{if◌then◌else◌}
+use Rattle.std.specs.Prelude.{List, [], ◌∷◌, ◌++◌, ℕ, zero, suc, ◌+◌, ◌/◌, ◌%◌, eqb, ltb, if◌then◌else◌}
 
 -- The last k decimal digits of x, without zeros in front.
 unfoldable pub digits : ℕ → ℕ → List ℕ

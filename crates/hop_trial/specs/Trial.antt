@@ -1,7 +1,6 @@
 -- What the code of a trial starts from, does to the bytes and answers. Used by the code's own contracts; a buyer needs none of it.
-use Rattle.std.specs.Prelude.{◌≡◌, List, ℕ, ◌≤◌, eqb, length, take}
+use Rattle.std.specs.Prelude.{◌≡◌, List, ℕ, ◌≤◌, eqb, length, take, if◌then◌else◌}
 use Rattle.hop_rule.specs.declared.Table.TheVariants.{Links}
-use Rattle.hop_rule.specs.Words.{if◌then◌else◌}
 use Rattle.hop_rule.specs.Rule.{total}
 use Rattle.hop_rule.specs.Stored.{size, nodes, read}
 use Rattle.hop_rule.specs.Worth.{Line}

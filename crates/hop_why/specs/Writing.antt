@@ -1,6 +1,5 @@
 -- What the path writer counts on, and what the last step of the call does with a reason. A buyer needs none of it.
-use Rattle.std.specs.Prelude.{◌≡◌, List, [], ◌∷◌, ℕ, zero, suc, ◌<◌, ltb, length}
-use Rattle.hop_rule.specs.Words.{if◌then◌else◌}
+use Rattle.std.specs.Prelude.{◌≡◌, List, [], ◌∷◌, ℕ, zero, suc, ◌<◌, ltb, length, if◌then◌else◌}
 use Rattle.hop_rule.specs.State.{State}
 use Rattle.hop_rule.specs.Records.{written}
 use Rattle.hop_rule.specs.Why.{Reason, kind, shown, Explained}

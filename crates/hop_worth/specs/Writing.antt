@@ -1,6 +1,5 @@
 -- What the code writes to the list of R-1. Used by the code's own contracts; a buyer needs none of it.
-use Rattle.std.specs.Prelude.{List, [], ◌∷◌, ℕ, ◌≤◌, ◌<◌, ℤ, pos, nat_abs}
-use Rattle.hop_rule.specs.Words.{if◌then◌else◌}
+use Rattle.std.specs.Prelude.{List, [], ◌∷◌, ℕ, ◌≤◌, ◌<◌, ℤ, pos, nat_abs, if◌then◌else◌}
 use Rattle.hop_rule.specs.State.{State}
 use Rattle.hop_rule.specs.Worth.{Line, line, tried}
 use Rattle.hop_trial.specs.declared.Found.{Found}
