@@ -1,6 +1,5 @@
 -- Numbers that pass a test, gathered one by one: first into a set and counted, then from the set into a list. Assumes nothing.
 use mathlib.Core.Path.{◌≡◌, sym, ap, subst, ◌∙◌}
-use mathlib.Core.Logic.{◌⊎◌, inl, inr}
 use mathlib.Core.Bool.{Bool, true, false}
 use mathlib.Core.List.{List, [], ◌∷◌}
 use Prim.Native.Nat.{ℕ, ◌+◌, ◌≤◌, ◌<◌}
@@ -43,25 +42,21 @@ module _ (p : ℕ → Bool) where
   gathered_none = record { below = λ y l. absurd (omega arith); beyond = λ y l. has_none y; counted = ap length (sym (those_none p)) }
 
   module _ {m count x : ℕ} (g : Gathered m count x) where
-    with_it : p x ≡ true → Gathered (added m x) (count + 1) (x + 1)
+    -- A turn of the code: with x added,
+    pub with_it : p x ≡ true → Gathered (added m x) (count + 1) (x + 1)
     with_it t = record {
       below = one_more (λ y. has (added m x) y ≡ p y) x (λ y l. added_else m x y (λ e. omega arith) ∙ g.below y l) (added_has m x ∙ sym t);
       beyond = λ y l. added_else m x y (λ e. omega arith) ∙ g.beyond y (omega arith);
       counted = omega (arith, g.counted, more_so x t);
     }
 
-    without : p x ≡ false → Gathered m count (x + 1)
+    -- or without it.
+    pub without : p x ≡ false → Gathered m count (x + 1)
     without t = record {
       below = one_more (λ y. has m y ≡ p y) x g.below (g.beyond x (omega arith) ∙ sym t);
       beyond = λ y l. g.beyond y (omega arith);
       counted = g.counted ∙ ap length (sym (more_not x t));
     }
-
-    -- A turn of the code: in its first branch a call gives the set with x added.
-    pub gathered_turn : {T E : Type 0} {U : T → Type 0} {r : (t : T) → U t → ℕ} → (T → p x ≡ true) → ((t : T) (k : U t) → r t k ≡ added m x) → (E → p x ≡ false) → {m' count' : ℕ}
-        → ((t : T) × (k : U t) × (m' ≡ r t k) × (count' ≡ count + 1)) ⊎ (E × (m' ≡ m) × (count' ≡ count)) → Gathered m' count' (x + 1)
-    gathered_turn so gives not (inl (t, k, e, i)) = rw (e ∙ gives t k, i) (with_it (so t))
-    gathered_turn so gives not (inr (t, e, i)) = rw (e, i) (without (not t))
 
     pub gathered_few : count ≤ x
     gathered_few = omega (arith, g.counted, those_most p x)
@@ -79,15 +74,18 @@ module _ (p : ℕ → Bool) where
     pub filled_none : Filled list₀ list₀ 0 0
     filled_none = record { counted = ap length (sym (those_none p)); put = ap (sets list₀ 0) (sym (those_none p)) }
 
-    pub filled_turn : {list : List ℕ} {k x : ℕ} → Filled list₀ list k x → {T E : Type 0} → (T → p x ≡ true) → (E → p x ≡ false) → {list' : List ℕ} {k' : ℕ}
-        → (T × (list' ≡ set list k x) × (k' ≡ k + 1)) ⊎ (E × (list' ≡ list) × (k' ≡ k)) → Filled list₀ list' k' (x + 1)
-    filled_turn {list} {k} {x} f so not (inl (t, e, m)) =
+    -- A turn of the code: x is put behind the others,
+    pub filled_with : {list : List ℕ} {k x : ℕ} → Filled list₀ list k x → p x ≡ true → Filled list₀ (set list k x) (k + 1) (x + 1)
+    filled_with {list} {k} {x} f t =
         let place : k ≡ 0 + length (those x p) = omega (arith, f.counted) in
         record {
-          counted = omega (arith, m, f.counted, more_so x (so t));
-          put = rw (add-one x, those_so p x (so t)) (sets_more (those x p) x list₀ 0 f.put (e ∙ ap (λ i. set list i x) place));
+          counted = omega (arith, f.counted, more_so x t);
+          put = rw (add-one x, those_so p x t) (sets_more (those x p) x list₀ 0 f.put (ap (λ i. set list i x) place));
         }
-    filled_turn {x = x} f so not (inr (t, e, m)) = record { counted = m ∙ f.counted ∙ ap length (sym (more_not x (not t))); put = e ∙ f.put ∙ ap (sets list₀ 0) (sym (more_not x (not t))) }
+
+    -- or it is passed over.
+    pub filled_without : {list : List ℕ} {k x : ℕ} → Filled list₀ list k x → p x ≡ false → Filled list₀ list k (x + 1)
+    filled_without {x = x} f t = record { counted = f.counted ∙ ap length (sym (more_not x t)); put = f.put ∙ ap (sets list₀ 0) (sym (more_not x t)) }
 
     module _ {list : List ℕ} {k x : ℕ} (f : Filled list₀ list k x) where
       pub filled_few : k ≤ x

@@ -25,6 +25,7 @@ pub enum WhyAnswer {
 }
 
 // The path from u to v over so many hops, from place `at` on: it calls itself on the downstream, the hop count falling.
+#[tactic(auto, using(crate::proofs::Paths::path_more, crate::proofs::Paths::path_one))]
 fn path(s: &[u8], list: &mut [u8], n: usize, u: usize, v: usize, hops: usize, at: usize)
     requires { Room n s.now × (v < n) × (at + hops < length list.old) × Stays (read_as n s.now) u v hops }
     ensures { list.new ≡ sets list.old at (along (read_as n s.now) u v hops) }

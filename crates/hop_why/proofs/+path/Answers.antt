@@ -1,0 +1,32 @@
+-- `path` meets its contract. The path stays below n, the hop count falls, and the list has room for the rest. Assumes nothing.
+use Prim.Native.Nat.{◌<◌}
+use native.Mathlib.Omega.{arith}
+use lib.ListN.{length-set}
+use Rattle.hop_rule.specs.Stored.{read_as}
+use Rattle.hop_why.proofs.Paths.{here_below, next_inside}
+use Rattle.hop_why.proofs.+path.Goals as goal
+
+pub overflow_cast-list : goal.overflow_cast-list
+unfolding read_as
+overflow_cast-list t c =
+    let x = c.args in
+    let (room, lv, fits, inside) = c.requires in
+    record { fits = omega (arith, here_below (read_as x.n x.s.now) x.u x.v x.hops inside, room.most) }
+
+pub route-next-requires : goal.route-next-requires
+unfolding read_as
+route-next-requires t c =
+    let x = c.args in
+    let (room, lv, fits, inside) = c.requires in
+    let lu = here_below (read_as x.n x.s.now) x.u x.v x.hops inside in
+    (room, omega (arith, lu, lv), omega (arith, lu, lv))
+
+pub path-requires : goal.path-requires
+path-requires t c =
+    let x = c.args in
+    let (room, lv, fits, inside) = c.requires in
+    let more : 0 < x.hops = omega arith in
+    let next = c.route-next.ensures.downstream in (
+      omega (arith, c.decreases, more),
+      (room, lv, omega (arith, length-set x.list.now x.at x.u, fits, more), rw next (next_inside (read_as x.n x.s.now) x.u x.v x.hops more inside)),
+    )
