@@ -1,15 +1,11 @@
 -- What is left to do of a script: the loop over records writes a line for each, and what it has still to write falls by that line. Assumes nothing.
 use mathlib.Core.Path.{◌≡◌, refl, sym, ap, ◌∙◌}
-use mathlib.Core.Logic.{inl, inr}
-use mathlib.Core.List.{List, [], ◌∷◌, ◌++◌}
+use mathlib.Core.List.{List, [], ◌++◌}
 use Prim.Native.Nat.{ℕ, suc, ◌+◌, ◌-◌, ◌≤◌}
 use native.Mathlib.Numerals.{add-one}
 use native.Mathlib.Omega.{arith}
 use lib.ListN.{length, length-append}
 use lib.Seq.{sets, length-sets}
-use types.Run.{OneOf}
-use denote.Enum.Declared.{tag_of}
-use Rattle.hop_rule.specs.contracts.Reading.{the_type}
 use Rattle.hop_rule.specs.declared.Event.{Event}
 use Rattle.hop_rule.specs.declared.Reading.{Reading}
 use Rattle.hop_rule.specs.declared.Reading.TheVariants.{Found, End, Refused}
@@ -23,11 +19,11 @@ use Rattle.hop_text.specs.Writing.{Ends, Wrote}
 use Rattle.hop_text.proofs.Writing.{sets_append, wrote_nothing, ends_first}
 use Rattle.hop_replay.specs.Replay.{Replayed, call_of, queued, applied_line, events, events_of}
 
--- What is neither found (0) nor refused (2) is the end (1): the code learns each as a tag.
-pub only_end : (r : Reading) → OneOf (1 ∷ 2 ∷ []) (tag_of the_type r) → OneOf (0 ∷ 1 ∷ []) (tag_of the_type r) → r ≡ End
-only_end (Found e q) a b = elim a [ inl z ↦ absurd (omega arith) | inr z ↦ absurd (omega arith) ]
+-- What is neither found nor refused is the end.
+pub only_end : (r : Reading) → ((e : Event) (q : ℕ) → r ≡ Found e q → ⊥) → ((c : ℕ) → r ≡ Refused c → ⊥) → r ≡ End
+only_end (Found e q) a b = absurd (a e q refl)
 only_end End a b = refl
-only_end (Refused c) a b = elim b [ inl z ↦ absurd (omega arith) | inr z ↦ absurd (omega arith) ]
+only_end (Refused c) a b = absurd (b c refl)
 
 -- ---- one more record
 

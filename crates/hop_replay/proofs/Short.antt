@@ -51,7 +51,7 @@ judge_most m (r ∷ rs) h = go r.applies (judge_most m rs h.1)
 number_small : (e : Event) (s : List ℕ) → (outcome (call_of e) s []).number < 100
 unfolding refusals call_of
 number_small e s =
-    let most : judge (refusals (call_of e) s []) ≤ 13 = judge_most 13 _ (elim e [
+    let most : judge (refusals (call_of e) s []) ≤ 13 = judge_most 13 _ (elim e as (λ k. AtMost 13 (refusals (call_of k) s [])) [
       | Make n ↦ omega arith
       | Up a b ↦ omega arith
       | Down a b ↦ omega arith

@@ -1,9 +1,9 @@
 -- 01, 'The program': from a script of records to the text that is printed. Uses hop_text's Text for the lines, and hop_rule's Route, Records and Calls.
-use Rattle.std.specs.Prelude.{List, [], ◌++◌, ℕ, zero, suc, eqb, length, take, replicate}
+use Rattle.std.specs.Prelude.{List, [], ◌++◌, ℕ, zero, suc, eqb, length, take, replicate, if◌then◌else◌}
 use Rattle.hop_rule.specs.declared.Event.{Event}
 use Rattle.hop_rule.specs.declared.Event.TheVariants.{Make, Up, Down, Deliver, Pass, Notice}
 use Rattle.hop_rule.specs.declared.Reading.TheVariants.{Found, End, Refused}
-use Rattle.hop_rule.specs.Words.{if◌then◌else◌, joined}
+use Rattle.hop_rule.specs.Words.{joined}
 use Rattle.hop_rule.specs.State.{State}
 use Rattle.hop_rule.specs.Route.{route}
 use Rattle.hop_rule.specs.Stored.{read}

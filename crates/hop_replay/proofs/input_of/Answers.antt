@@ -1,0 +1,11 @@
+-- `input_of` meets its contract: a script that is no longer than the limit is read whole. Assumes nothing.
+use mathlib.Core.Path.{sym}
+use lib.Seq.{take_all, length-take-le}
+use borrow.Author.Rules.{rules}
+use Rattle.hop_replay.proofs.input_of.Goals as goal
+
+pub returns-then-script-le16384 : goal.returns-then-script-le16384
+returns-then-script-le16384 c = sym (take_all _ _ c.if-script-le16384.true)
+
+pub slice_bounds-result-end : goal.slice_bounds-result-end
+slice_bounds-result-end c = sym (length-take-le 16384 c.args.script.now (search rules))
