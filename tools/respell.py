@@ -84,6 +84,8 @@ def main():
     args = [a for a in sys.argv[1:] if a != "--dry"]
     dry = "--dry" in sys.argv
     root = args[0] if args else "."
+    if os.path.exists(os.path.join(root, "docs", "PORT.md")):
+        sys.exit("respell: docs/PORT.md says that this was done: a second run would rename what the first one made")
     texts = {p: open(p, encoding="utf-8").read() for p in files(root)}
     own = collections.defaultdict(set)
     for p, t in texts.items():

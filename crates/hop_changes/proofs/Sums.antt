@@ -1,7 +1,6 @@
 -- What is counted place by place is what R-1 counts over ordered pairs; and a running signed sum with one difference more is the difference of the longer sums. Assumes nothing.
-use Rattle.std.specs.Prelude.{if◌then◌else◌}
 use mathlib.Core.Path.{◌≡◌, refl, sym, ap, subst, ◌∙◌}
-use mathlib.Core.Bool.{Bool, true, false, not, cond, ◌&&◌}
+use mathlib.Core.Bool.{Bool, true, false, cond, ◌&&◌}
 use mathlib.Core.List.{List}
 use Prim.Native.Nat.{ℕ, zero, suc, ◌+◌, ◌*◌, ◌<◌, ◌≤◌}
 use native.Mathlib.Nat.{le_trans}
@@ -32,12 +31,6 @@ module _ (n : ℕ) (s t : List ℕ) where
   pub hops_all : sum (n * n) (hops_at n s t) ≡ worth.hops n (flat n s Distances) (flat n t Distances)
   unfolding hops_at worth.hops flat get
   hops_all = sum_rows n n (hops_at n s t)
-
-  -- ---- one place, by the bytes that the code compares
-
-  pub lost_one : (i : ℕ) {m b a : ℕ} → m ≡ n → b ≡ get n Distances i s → a ≡ get n Distances i t → {x : Bool} → ltb b m && not (ltb a m) ≡ x → (if x then 1 else 0) ≡ lost_at n s t i
-  unfolding lost_at
-  lost_one i e eb ea h = rw (← h, e, eb, ea)
 
   -- The hops at a place, where both are routes and where not.
   pub hops_both : (i : ℕ) → ltb (get n Distances i s) n && ltb (get n Distances i t) n ≡ true → hops_at n s t i ≡ get n Distances i s

@@ -21,6 +21,7 @@ fn narrow(n: usize) -> u8
 }
 
 // 1 where the pair at place i has a route before and none after.
+#[tactic(auto, unfolding(crate::specs::Changes::lost_at))]
 fn lost_at(before: &[u8], after: &[u8], n: usize, i: usize) -> u32
     requires { Room n before.now × Room n after.now × (i < n * n) }
     ensures { (result ≡ lost_at n before.now after.now i) × (result ≤ 1) }

@@ -7,9 +7,9 @@ use mathlib.Core.List.{List, [], ◌∷◌, ◌++◌}
 use Prim.Native.Nat.{ℕ, zero, suc}
 use native.Mathlib.Omega.{arith}
 use lib.ListN.{length}
-use borrow.Author.Tests.{ne_eqb}
+use borrow.Author.Tests.{eq-eqb, ne_eqb}
 use Rattle.hop_rule.specs.Stored.{size, nodes}
-use Rattle.hop_rule.specs.Calls.{Call, make, Refusal, judge, empty, bad_count, short, refusals, refused, done, outcome}
+use Rattle.hop_rule.specs.Calls.{Call, make, Refusal, judge, empty, bad_count, short, on_state, refusals, refused, done, outcome}
 use Rattle.hop_laws.proofs.Calls.{judge_applies, judge_next, judge_first, judge_passed, Numbered, outcome_done, outcome_refused}
 use Rattle.hop_judge.specs.declared.Judged.{Judged}
 use Rattle.hop_judge.specs.declared.Judged.TheVariants.{Go, Refused}
@@ -48,6 +48,11 @@ module _ (rs : List Refusal) (m : ℕ) {j : Judged} (e : j ≡ verdict (judge rs
   judged_next r positive g same h =
       let (none, claim) = gone _ _ e g in
       h ∙ ap₂ (λ b k. verdict (if b then r.number else 0) k) (same claim) claim ∙ ap (λ c. verdict c m) (sym (judge_passed rs (r ∷ []) positive none))
+
+-- An empty buffer is refused before anything else.
+pub empty_refused : (s : List ℕ) → length s ≡ 0 → Refused 2 ≡ verdict (judge (on_state s [])) (nodes s)
+unfolding verdict
+empty_refused s e = first_refuses (empty s) _ _ (eq-eqb _ _ e)
 
 -- A buffer that is not empty is judged by the count that its first byte claims.
 pub claimed : (s : List ℕ) → length s ≢ 0 → {n : ℕ} → n ≡ nodes s → {j : Judged} → j ≡ verdict (judge (refusals (make n) s [])) n → j ≡ verdict (judge (empty s ∷ bad_count (nodes s) ∷ short s (size (nodes s)) ∷ [])) (nodes s)

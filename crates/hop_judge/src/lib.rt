@@ -49,6 +49,7 @@ pub fn judge_make(s: &[u8], n: usize) -> Judged
 }
 
 // The state's own: empty buffer 2, then 1 and 2 by the count that the first byte claims, not sound 3.
+#[tactic(auto, using(crate::proofs::Judging::empty_refused))]
 pub fn judge_state(s: &[u8]) -> Judged
     ensures { result ≡ verdict (judge (on_state s.now [])) (stored.nodes s.now) }
 {

@@ -44,6 +44,7 @@ fn less(d: u8) -> u8
 }
 
 // The least view from neighbour w that allows distance d by way of h. No test here waits for another, so that the loop below stays straight.
+#[tactic(auto, unfolding(crate::specs::SoundRows::least_view))]
 fn least_view(n: u8, w: u8, d: u8, h: u8) -> u8
     ensures { result ≡ check.least_view n w d h }
 {

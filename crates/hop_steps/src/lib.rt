@@ -106,6 +106,7 @@ pub fn recompute(s: &mut [u8], n: usize, u: usize, v: usize)
 }
 
 // The view of v from w has become d. Only if it grew and was the one to go by are the others looked at.
+#[tactic(auto, unfolding(crate::specs::Steps::settle))]
 fn settle(s: &mut [u8], n: usize, u: usize, v: usize, w: usize, d: usize)
     requires { Room n s.old × (u < n) × (v < n) × (w < n) × (d < 256) }
     ensures { s.new ≡ step.settle n u v w d s.old }

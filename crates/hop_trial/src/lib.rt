@@ -35,6 +35,7 @@ pub fn copy(from: &[u8], to: &mut [u8], k: usize)
 }
 
 // An up link is taken down, a down link is put up. Both ends of a pair that is tried are as a's own is.
+#[tactic(auto, unfolding(crate::specs::Trial::turned))]
 fn turn(x: &mut [u8], n: usize, a: usize, b: usize)
     requires { Room n x.old × (a < n) × (b < n) }
     ensures { x.new ≡ turned n a b x.old }

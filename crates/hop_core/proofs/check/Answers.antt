@@ -5,7 +5,7 @@ use Rattle.hop_core.proofs.check.Goals as goal
 
 pub returns-in-Refused : goal.returns-in-Refused
 unfolding refusals
-returns-in-Refused c = call_refused check _ _ _ c.judge_state.ensures c.in-Refused.is
+returns-in-Refused c = call_refused _ _ _ _ c.judge_state.ensures c.in-Refused.is
 
 pub returns-in-Go : goal.returns-in-Go
 unfolding refusals done

@@ -2,17 +2,10 @@
 use mathlib.Core.Path.{ap, ◌∙◌}
 use mathlib.Core.Bool.{not}
 use native.Mathlib.Omega.{arith}
-use borrow.Author.Tests.{eq-eqb}
 use Rattle.hop_rule.specs.Sound.{is_sound_as}
-use Rattle.hop_rule.specs.Calls.{empty}
-use Rattle.hop_judge.specs.Verdict.{verdict}
-use Rattle.hop_judge.proofs.Judging.{gone, first_refuses, refused_already, judged_next, claimed}
+use Rattle.hop_judge.proofs.Judging.{gone, refused_already, judged_next, claimed}
 use Rattle.hop_judge.proofs.Known.{room_made}
 use Rattle.hop_judge.proofs.judge_state.Goals as goal
-
-pub returns-then-s-eq0 : goal.returns-then-s-eq0
-unfolding verdict
-returns-then-s-eq0 c = first_refuses (empty c.args.s.now) _ _ (eq-eqb _ _ c.if-s-eq0.true)
 
 pub is_sound-requires : goal.is_sound-requires
 is_sound-requires c =
