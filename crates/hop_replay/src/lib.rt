@@ -137,7 +137,8 @@ fn put_routes(state: &[u8], out: &mut [u8], at: usize) -> usize
 fn input_of(script: &[u8]) -> &[u8]
     ensures { result.now ≡ take 16384 script.now }
 {
-    if script.len() <= 16384 {
+    let is_whole = script.len() <= 16384;
+    if is_whole {
         return script;
     }
     &script[..16384]

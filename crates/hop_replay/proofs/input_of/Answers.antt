@@ -4,8 +4,8 @@ use lib.Seq.{take_all, length-take-le}
 use borrow.Author.Rules.{rules}
 use Rattle.hop_replay.proofs.input_of.Goals as goal
 
-pub returns-then-script-le16384 : goal.returns-then-script-le16384
-returns-then-script-le16384 c = sym (take_all _ _ c.if-script-le16384.true)
+pub returns-then-is_whole : goal.returns-then-is_whole
+returns-then-is_whole c = sym (take_all _ _ c.if-is_whole.true)
 
 pub slice_bounds-result-end : goal.slice_bounds-result-end
 slice_bounds-result-end c = sym (length-take-le 16384 c.args.script.now (search rules))
