@@ -57,6 +57,9 @@ pub record Counted (s : List ℕ) (n u for from reached total : ℕ) : Type 0 wh
   pub reaches : reached ≡ counts.reached n u s
   pub in_all : total ≡ counts.queued n s
 
+pub counted : {s : List ℕ} {n u for from reached total : ℕ} → for ≡ counts.waiting_for n u s → from ≡ counts.waiting_from n u s → reached ≡ counts.reached n u s → total ≡ counts.queued n s → Counted s n u for from reached total
+counted a b c d = record { for_it = a; from_it = b; reaches = c; in_all = d }
+
 module _ (s out : List ℕ) (u : ℕ) {j : Judged} (e : j ≡ verdict (judge (refusals (status u) s out)) (nodes s)) {n : ℕ} (g : j ≡ Go n) where
   claim : n ≡ nodes s
   unfolding refusals

@@ -1,4 +1,6 @@
 -- `judge_state` meets its contract: a buffer that is not empty is judged as for making a state of as many nodes as it claims, and then by the check. Assumes nothing.
+use mathlib.Core.Logic.{◌≢◌}
+use lib.ListN.{length}
 use mathlib.Core.Path.{ap, ◌∙◌}
 use mathlib.Core.Bool.{not}
 use native.Mathlib.Omega.{arith}
@@ -14,9 +16,11 @@ is_sound-requires c =
 
 pub returns-in-Go : goal.returns-in-Go
 returns-in-Go c =
-    let judged = claimed _ c.if-s-eq0.false c.nodes.ensures c.judge_make.ensures in
+    let some : length c.args.s.now ≢ 0 = omega arith in
+    let judged = claimed _ some c.nodes.ensures c.judge_make.ensures in
     judged_next _ _ judged _ (omega arith) c.in-Go.is (λ claim. ap not (c.is_sound.ensures ∙ ap (λ m. is_sound_as m c.args.s.now) claim)) c.unless.ensures
 
 pub returns-in_default : goal.returns-in_default
 returns-in_default c =
-    refused_already _ _ (claimed _ c.if-s-eq0.false c.nodes.ensures c.judge_make.ensures) _ c.in_default.not-Go
+    let some : length c.args.s.now ≢ 0 = omega arith in
+    refused_already _ _ (claimed _ some c.nodes.ensures c.judge_make.ensures) _ c.in_default.not-Go
