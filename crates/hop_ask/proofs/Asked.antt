@@ -1,10 +1,12 @@
 -- Each question, where it goes on: what the code reads or counts is the answer of the call's outcome. Assumes nothing.
+use Rattle.std.specs.Prelude.{Result, Ok}
 use mathlib.Core.Path.{◌≡◌, refl, sym, ap, ◌∙◌}
 use mathlib.Core.List.{List, [], ◌∷◌}
 use Prim.Native.Nat.{ℕ, ◌≤◌, ◌<◌}
 use native.Mathlib.Omega.{arith}
 use lib.ListN.{length}
 use borrow.Author.Tests.{ltb-false}
+use Rattle.hop_rule.specs.declared.Refused.{Refused}
 use Rattle.hop_rule.specs.declared.Table.TheVariants.{Lengths}
 use Rattle.hop_rule.specs.Rule as rule
 use Rattle.hop_rule.specs.Route as question
@@ -20,31 +22,27 @@ use Rattle.hop_cells.specs.Cells.{Room, get2, Reads}
 use Rattle.hop_cells.proofs.Read.{length_read}
 use Rattle.hop_counts.specs.Counts as counts
 use Rattle.hop_bridge.proofs.Top.{queued_read, waiting_for_read, waiting_from_read, reached_read}
-use Rattle.hop_judge.specs.declared.Judged.{Judged}
-use Rattle.hop_judge.specs.declared.Judged.TheVariants.{Go}
-use Rattle.hop_judge.specs.Verdict.{verdict}
+use Rattle.hop_judge.specs.Verdict.{Judges}
 use Rattle.hop_judge.proofs.Judging.{gone, call_done}
 use Rattle.hop_judge.proofs.Known.{claim_known, fine_known, room_known, node_known}
-use Rattle.hop_ask.specs.declared.Answer.TheVariants.{Value}
-use Rattle.hop_ask.specs.declared.RouteAnswer.TheVariants as answer
 use Rattle.hop_ask.specs.Answers.{asked, directed}
 
-module _ (s : List ℕ) {j : Judged} {n : ℕ} (g : j ≡ Go n) {x : ℕ} where
+module _ (s : List ℕ) {j : Result ℕ Refused} {n : ℕ} (g : j ≡ Ok n) {x : ℕ} where
   -- Common to those with one value but status: what the code has is what the call answers.
-  read_asked : (k : Call) {y : ℕ} → j ≡ verdict (judge (refusals k s [])) (nodes s) → asked (Value y) s [] ≡ done k s [] → (n ≡ nodes s → x ≡ y) → asked (Value x) s [] ≡ outcome k s []
-  read_asked k e answer h = ap (λ v. asked (Value v) s []) (h (gone _ _ e g).1) ∙ answer ∙ call_done k s [] (nodes s) e g
+  read_asked : (k : Call) {y : ℕ} → Judges (judge (refusals k s [])) (nodes s) j → asked (Ok y) s [] ≡ done k s [] → (n ≡ nodes s → x ≡ y) → asked (Ok x) s [] ≡ outcome k s []
+  read_asked k e answer h = ap (λ v. asked (Ok v) s []) (h (gone _ _ e g).1) ∙ answer ∙ call_done k s [] (nodes s) e g
 
-  pub total_asked : j ≡ verdict (judge (refusals total_queued s [])) (nodes s) → x ≡ counts.queued n s → asked (Value x) s [] ≡ outcome total_queued s []
+  pub total_asked : Judges (judge (refusals total_queued s [])) (nodes s) j → x ≡ counts.queued n s → asked (Ok x) s [] ≡ outcome total_queued s []
   unfolding refusals done
   total_asked e h = read_asked total_queued e refl (λ claim. h ∙ ap (λ m. counts.queued m s) claim ∙ queued_read s (fine_known s [] e g))
 
-  pub length_asked : (a b : ℕ) → j ≡ verdict (judge (refusals (queue_length a b) s [])) (nodes s) → x ≡ get2 n Lengths a b s → asked (Value x) s [] ≡ outcome (queue_length a b) s []
+  pub length_asked : (a b : ℕ) → Judges (judge (refusals (queue_length a b) s [])) (nodes s) j → x ≡ get2 n Lengths a b s → asked (Ok x) s [] ≡ outcome (queue_length a b) s []
   unfolding done
   length_asked a b e h = read_asked (queue_length a b) e refl (λ claim. h ∙ length_read s claim a b)
 
 -- A route has two answers.
-pub route_asked : (s : List ℕ) {j : Judged} {n : ℕ} (u v : ℕ) {r : Way} → j ≡ verdict (judge (refusals (route u v) s [])) (nodes s) → j ≡ Go n → Reads r (question.route (read_as n s) u v)
-    → directed (answer.Way r.distance r.downstream) s ≡ outcome (route u v) s []
+pub route_asked : (s : List ℕ) {j : Result ℕ Refused} {n : ℕ} (u v : ℕ) {r : Way} → Judges (judge (refusals (route u v) s [])) (nodes s) j → j ≡ Ok n → Reads r (question.route (read_as n s) u v)
+    → directed (Ok r) s ≡ outcome (route u v) s []
 unfolding done
 route_asked s u v e g h = rw (h.distance, h.downstream, (gone _ _ e g).1) (call_done (route u v) s [] (nodes s) e g)
 
@@ -60,7 +58,7 @@ pub record Counted (s : List ℕ) (n u for from reached total : ℕ) : Type 0 wh
 pub counted : {s : List ℕ} {n u for from reached total : ℕ} → for ≡ counts.waiting_for n u s → from ≡ counts.waiting_from n u s → reached ≡ counts.reached n u s → total ≡ counts.queued n s → Counted s n u for from reached total
 counted a b c d = record { for_it = a; from_it = b; reaches = c; in_all = d }
 
-module _ (s out : List ℕ) (u : ℕ) {j : Judged} (e : j ≡ verdict (judge (refusals (status u) s out)) (nodes s)) {n : ℕ} (g : j ≡ Go n) where
+module _ (s out : List ℕ) (u : ℕ) {j : Result ℕ Refused} (e : Judges (judge (refusals (status u) s out)) (nodes s) j) {n : ℕ} (g : j ≡ Ok n) where
   claim : n ≡ nodes s
   unfolding refusals
   claim = claim_known s _ e g
@@ -107,9 +105,9 @@ module _ (s out : List ℕ) (u : ℕ) {j : Judged} (e : j ≡ verdict (judge (re
           omega (arith, is_total, total_fits (read s) sound fine.most),
         )
 
-    pub status_asked : {after : List ℕ} → after ≡ written (record_of 1 (u ∷ for ∷ from ∷ reached ∷ total ∷ [])) out → asked (Value 14) s after ≡ outcome (status u) s out
+    pub status_asked : {after : List ℕ} → after ≡ written (record_of 1 (u ∷ for ∷ from ∷ reached ∷ total ∷ [])) out → asked (Ok 14) s after ≡ outcome (status u) s out
     unfolding done status_record
     status_asked h =
         let r = status_record (read s) u in
         let same : record_of 1 (u ∷ for ∷ from ∷ reached ∷ total ∷ []) ≡ r = rw (is_for, is_from, is_reached, is_total) in
-        ap (λ k. asked (Value 14) s k) (h ∙ ap (λ k. written k out) same) ∙ ap (λ k. asked (Value k) s (written r out)) (sym (length_status (read s) u)) ∙ call_done (status u) s out (nodes s) e g
+        ap (λ k. asked (Ok 14) s k) (h ∙ ap (λ k. written k out) same) ∙ ap (λ k. asked (Ok k) s (written r out)) (sym (length_status (read s) u)) ∙ call_done (status u) s out (nodes s) e g

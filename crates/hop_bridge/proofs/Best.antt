@@ -12,13 +12,13 @@ use Rattle.hop_rule.specs.State.{State}
 use Rattle.hop_rule.specs.Rule.{least, distance_of, downstream_of}
 use Rattle.hop_laws.proofs.Tests.{Tells, tells_eq, tells_lt, tells_and, choose_so, choose_else}
 use Rattle.hop_laws.proofs.Rule.{least_most, least_under, distance_of_other, downstream_of_none, downstream_of_is}
-use Rattle.hop_steps.specs.declared.Best.{Best}
+use Rattle.hop_cells.specs.declared.Way.{Way}
 use Rattle.hop_steps.specs.Steps.{nearer, best}
 use Rattle.hop_bridge.specs.Carries.{Carries}
 use Rattle.hop_bridge.proofs.Rows.{loop_reaches}
 
 -- b is what the neighbours below k give.
-record Found (t : State) (u v k : ℕ) (b : Best) : Type 0 where
+record Found (t : State) (u v k : ℕ) (b : Way) : Type 0 where
   distance : b.distance ≡ least t u v k
   none : b.distance ≡ t.n → b.downstream ≡ 255
   below : b.distance < t.n → b.downstream < k
@@ -27,7 +27,7 @@ record Found (t : State) (u v k : ℕ) (b : Best) : Type 0 where
   lowest : (w : ℕ) → w < k → t.link u w ≡ 1 → suc (t.view u w v) ≡ b.distance → b.distance < t.n → b.downstream ≤ w
 
 -- What recompute gives, as the code has it.
-abbrev pub found : State → ℕ → ℕ → Best
+abbrev pub found : State → ℕ → ℕ → Way
 found t u v = record { distance = distance_of t u v; downstream = downstream_of t u v (distance_of t u v) }
 
 module _ (t : State) (u v : ℕ) where
@@ -43,7 +43,7 @@ module _ (t : State) (u v : ℕ) where
   }
 
   -- One neighbour more.
-  found_more : (k : ℕ) (b : Best) → Found t u v k b → Found t u v (suc k) (cond (eqb (t.link u k) 1 && ltb (t.view u k v + 1) b.distance) (record { distance = t.view u k v + 1; downstream = k }) b)
+  found_more : (k : ℕ) (b : Way) → Found t u v k b → Found t u v (suc k) (cond (eqb (t.link u k) 1 && ltb (t.view u k v + 1) b.distance) (record { distance = t.view u k v + 1; downstream = k }) b)
   unfolding least
   found_more k b f = go (ℕ_discrete (t.link u k) 1) (dec_lt (t.view u k v + 1) b.distance)
     where
@@ -88,7 +88,7 @@ module _ (t : State) (u v : ℕ) where
       go (no e) l = rw (choose_else test (record { distance = d; downstream = k }) b (λ z. e z.0)) (kept (choose_else (tells_eq (t.link u k) 1) _ _ e))
 
   -- What all neighbours give is the route.
-  found_route : (b : Best) → u ≢ v → Found t u v t.n b → b ≡ found t u v
+  found_route : (b : Way) → u ≢ v → Found t u v t.n b → b ≡ found t u v
   found_route b f g =
       let d : b.distance ≡ distance_of t u v = g.distance ∙ sym (distance_of_other t u v f) in
       let x : b.downstream ≡ downstream_of t u v (distance_of t u v) = go (ℕ_discrete b.distance t.n) ∙ ap (downstream_of t u v) d in

@@ -13,7 +13,7 @@ use Rattle.hop_laws.specs.Same.{Same}
 use Rattle.hop_laws.specs.Holds.{flat_of, deep_of}
 use Rattle.hop_laws.proofs.Tests.{tells_eq, tells_and, choose_else}
 use Rattle.hop_cells.specs.Cells.{put2}
-use Rattle.hop_steps.specs.declared.Best.{Best}
+use Rattle.hop_cells.specs.declared.Way.{Way}
 use Rattle.hop_steps.specs.Steps.{store}
 use Rattle.hop_bridge.specs.Carries.{Flats, Deeps, Filled, Tidy, Orderly, Carries}
 use Rattle.hop_bridge.proofs.Choice.{cond_on}
@@ -90,7 +90,7 @@ module _ {n : ℕ} {r s : List ℕ} {t : State} where
     values = λ a b c la lb lc. refl;
   })
 
-  pub store_carries : Carries n r s t → (u v : ℕ) (b : Best) → u < n → v < n → u ≢ v → Carries n r (store n u v b s) (with_route t u v b.distance b.downstream)
+  pub store_carries : Carries n r s t → (u v : ℕ) (b : Way) → u < n → v < n → u ≢ v → Carries n r (store n u v b s) (with_route t u v b.distance b.downstream)
   unfolding store
   store_carries h u v b lu lv ne = carries (record {
     count = h.orderly.count;

@@ -17,7 +17,7 @@ use Rattle.hop_laws.proofs.Tests.{Tells, decides, tells_eq, tells_lt, tells_and,
 use Rattle.hop_laws.proofs.Sound.{tells_sends}
 use Rattle.hop_laws.proofs.Rule.{distance_of_own, downstream_of_own, recompute_queue_other}
 use Rattle.hop_queues.specs.Queues as bytes
-use Rattle.hop_steps.specs.declared.Best.{Best}
+use Rattle.hop_cells.specs.declared.Way.{Way}
 use Rattle.hop_steps.specs.Steps.{store, tell_one, tell, recompute, renew}
 use Rattle.hop_bridge.specs.Carries.{Carries}
 use Rattle.hop_bridge.specs.Parts.{with_sent}
@@ -86,7 +86,7 @@ module _ {n : ℕ} {r s : List ℕ} {t : State} (h : Carries n r s t) (u v d : �
 -- ---- recompute
 
 module _ {n : ℕ} {r s : List ℕ} {t : State} (h : Carries n r s t) (u v : ℕ) (lu : u < n) (lv : v < n) where
-  abbrev new : Best
+  abbrev new : Way
   new = found t u v
 
   abbrev placed : State

@@ -7,14 +7,13 @@ use native.Mathlib.Omega.{arith}
 use lib.ListN.{length}
 use Rattle.hop_rule.specs.Fixed.{Fixed, FixedAnswer}
 use Rattle.hop_rule.specs.Records.{place_after}
-use Rattle.hop_rule.specs.Calls as call
-use Rattle.hop_rule.specs.Calls.{Call, Outcome, done, outcome}
-use Rattle.hop_laws.proofs.Calls.{done_answers}
+use Rattle.hop_rule.specs.Calls.{Outcome}
+use Rattle.hop_laws.proofs.Refused.{number_some}
 use Rattle.hop_records.proofs.Answers.{wrote_fixed}
 use Rattle.hop_core.proofs.Answers.{told_fixed, told_fixed_answer, passed_fixed, ran_fixed}
 use Rattle.hop_ask.proofs.Answers.{asked_fixed, asked_fixed_answer, directed_fixed}
-use Rattle.hop_worth.proofs.Answers.{worth_fixed, never_refused_with_0}
-use Rattle.hop_why.proofs.Answers.{why_fixed, why_not_refused_with_0}
+use Rattle.hop_worth.proofs.Answers.{worth_fixed}
+use Rattle.hop_why.proofs.Answers.{why_fixed}
 use Rattle.hop_c.specs.Determined.{Determined, DeterminedForC, NoneRefusedWith0}
 
 -- A contract that says what the answer is, and one that says so of the answer and of what is left.
@@ -23,6 +22,10 @@ is_fixed x r s p q = p ∙ sym q
 
 both_fixed : {R L : Type 0} (x : R) (y : L) → Fixed (λ (r : R) (l : L). (r ≡ x) × (l ≡ y))
 both_fixed x y r s l m p q = (p.0 ∙ sym q.0, p.1 ∙ sym q.1)
+
+-- And one that says it by the outcome that the number and the bytes left make.
+number_fixed : (o : Outcome) → Fixed (λ (c : ℕ) (t : List ℕ). record { number = c; answers = []; bytes = t; output = [] } ≡ o)
+number_fixed o c d s t p q = let same = p ∙ sym q in (ap (λ (x : Outcome). x.number) same, ap (λ (x : Outcome). x.bytes) same)
 
 pub determined : Determined
 determined = record {
@@ -53,6 +56,12 @@ determined = record {
 
 pub determined_for_c : DeterminedForC
 determined_for_c = record {
+  hop_make = λ s n. number_fixed _;
+  hop_check = λ s c d p q. (number_fixed _ c d s s p q).0;
+  hop_up = λ s a b. number_fixed _;
+  hop_down = λ s a b. number_fixed _;
+  hop_notice = λ s a b. number_fixed _;
+  hop_deliver = λ s w u. number_fixed _;
   hop_size = λ n. is_fixed _;
   hop_pass = λ s. both_fixed _ _;
   hop_run = λ s k. both_fixed _ _;
@@ -66,22 +75,16 @@ determined_for_c = record {
   hop_read_event = λ s p. both_fixed _ _;
 }
 
--- An outcome with the number 0 and no answer is not that of a call that has one when it is done.
-has_answer : (c : Call) (s out : List ℕ) {o : Outcome} → 0 < length (done c s out).answers → o.number ≡ 0 → length o.answers ≡ 0 → o ≢ outcome c s out
-has_answer c s out some z none e =
-    let answers = ap (λ (p : Outcome). p.answers) e ∙ done_answers c s out (sym (ap (λ (p : Outcome). p.number) e) ∙ z) in
-    omega (arith, ap length answers)
-
+-- No refusal has that number.
 pub none_refused_with_0 : NoneRefusedWith0
-unfolding done
 none_refused_with_0 = record {
-  pass = λ s t. has_answer call.pass s [] (omega arith) refl refl;
-  run = λ s t k. has_answer (call.run k) s [] (omega arith) refl refl;
-  route = λ s u v. has_answer (call.route u v) s [] (omega arith) refl refl;
-  queue_length = λ s w u. has_answer (call.queue_length w u) s [] (omega arith) refl refl;
-  total_queued = λ s. has_answer call.total_queued s [] (omega arith) refl refl;
-  status = λ s out left u. has_answer (call.status u) s out (omega arith) refl refl;
-  worth = never_refused_with_0;
-  why = λ s list l u v. why_not_refused_with_0 u v s list l;
-  write_event = λ out left e. has_answer (call.write_event e) [] out (omega arith) refl refl;
+  pass = λ s t r z h. number_some r z;
+  run = λ s t k r z h. number_some r z;
+  route = λ s u v r z h. number_some r z;
+  queue_length = λ s w u r z h. number_some r z;
+  total_queued = λ s r z h. number_some r z;
+  status = λ s out left u r z h. number_some r z;
+  worth = λ s trial x list l r z h. number_some r z;
+  why = λ s list l u v r z h. number_some r z;
+  write_event = λ out left e r z h. number_some r z;
 }

@@ -1,28 +1,22 @@
 -- 01, 'What the contracts have to settle', for every public call: two answers, and two sets of bytes left in the buffers that it may write to, that its contract allows at the same entry are equal.
 -- One line for each call; what stands behind `Fixed` is the contract that the call's source cites, at its arguments. A buffer that is lent to be read only has one set of bytes. Proved in proofs/Determined.
-use Rattle.std.specs.Prelude.{◌≡◌, List, [], ℕ, ℤ}
+use Rattle.std.specs.Prelude.{◌≡◌, List, [], ℕ, ℤ, ⊤, Result, Err}
 use Rattle.hop_rule.specs.declared.Event.{Event}
-use Rattle.hop_rule.specs.declared.Reading.{Reading}
-use Rattle.hop_rule.specs.Records.{read_event}
+use Rattle.hop_rule.specs.declared.Refused.{Refused}
+use Rattle.hop_rule.specs.Refused.{number}
+use Rattle.hop_rule.specs.Records.{Reading, read_event}
 use Rattle.hop_rule.specs.Calls as call
 use Rattle.hop_rule.specs.Calls.{outcome}
 use Rattle.hop_rule.specs.Fixed.{Fixed, FixedAnswer}
 use Rattle.hop_rule.specs.Worth.{worth}
 use Rattle.hop_rule.specs.Why.{why}
 use Rattle.hop_records.specs.declared.Numbers.{Numbers}
-use Rattle.hop_records.specs.declared.Written.TheVariants as answer_of_writing
 use Rattle.hop_records.specs.Writing.{Writes, numbers_of, wrote_event}
 use Rattle.hop_reader.specs.declared.Step.{Step}
 use Rattle.hop_reader.specs.Stepping.{MadeAt, ReadsNext, step_at}
-use Rattle.hop_core.specs.declared.PassAnswer.TheVariants as answer_of_pass
-use Rattle.hop_core.specs.declared.RunAnswer.TheVariants as answer_of_run
 use Rattle.hop_core.specs.Answers.{Told, Passed, Ran}
-use Rattle.hop_ask.specs.declared.Answer.{Answer}
-use Rattle.hop_ask.specs.declared.Answer.TheVariants.{Refused}
-use Rattle.hop_ask.specs.declared.RouteAnswer.TheVariants as answer_of_route
 use Rattle.hop_ask.specs.Answers.{Asked, Directed, Wrote}
 use Rattle.hop_worth.specs.Answers.{Worth}
-use Rattle.hop_why.specs.declared.WhyAnswer.TheVariants as answer_of_why
 use Rattle.hop_why.specs.Answers.{Why}
 use Rattle.hop_c.specs.declared.HopAnswer.{HopAnswer}
 use Rattle.hop_c.specs.declared.HopWay.{HopWay}
@@ -32,7 +26,7 @@ use Rattle.hop_c.specs.Edge.{size_of, answer, way}
 -- The calls of the core, with its own types.
 pub record Determined : Type 1 where
   pub make : (s : List ℕ) (n : ℕ) → Fixed (Told (call.make n) s)
-  pub check : (s : List ℕ) → FixedAnswer (λ (number : ℕ). Told call.check s number s)
+  pub check : (s : List ℕ) → FixedAnswer (λ (r : Result ⊤ Refused). Told call.check s r s)
   pub up : (s : List ℕ) (a b : ℕ) → Fixed (Told (call.up a b) s)
   pub down : (s : List ℕ) (a b : ℕ) → Fixed (Told (call.down a b) s)
   pub notice : (s : List ℕ) (a b : ℕ) → Fixed (Told (call.notice a b) s)
@@ -44,7 +38,7 @@ pub record Determined : Type 1 where
   pub total_queued : (s : List ℕ) → FixedAnswer (Asked call.total_queued s)
   pub status : (s out : List ℕ) (u : ℕ) → Fixed (Wrote (call.status u) s out)
   -- of R-1's call, the trial buffer and the list are what is left
-  pub worth : (s trial : List ℕ) (list : List ℤ) → Fixed (λ (a : Answer) (left : List ℕ × List ℤ). Worth s trial list a left.0 left.1)
+  pub worth : (s trial : List ℕ) (list : List ℤ) → Fixed (λ (a : Result ℕ Refused) (left : List ℕ × List ℤ). Worth s trial list a left.0 left.1)
   -- of R-3's, the list
   pub why : (s list : List ℕ) (u v : ℕ) → Fixed (Why u v s list)
   pub write_event : (out : List ℕ) (e : Event) → Fixed (Writes (outcome (call.write_event e) [] out))
@@ -56,8 +50,14 @@ pub record Determined : Type 1 where
   pub read_next : {S : Type 0} (s : List ℕ) (src : S) (p : ℕ) → Fixed (λ (x : Reading) (left : S × ℕ). ReadsNext s src p x left.0 left.1)
   pub read_from : (s : List ℕ) (p : ℕ) → FixedAnswer (λ (x : Step). x ≡ step_at s p)
 
--- The exports. hop_make, hop_check, hop_up, hop_down, hop_notice and hop_deliver cite the contracts above.
+-- The exports.
 pub record DeterminedForC : Type 0 where
+  pub hop_make : (s : List ℕ) (n : ℕ) → Fixed (edge.Told (call.make n) s)
+  pub hop_check : (s : List ℕ) → FixedAnswer (λ (number : ℕ). edge.Told call.check s number s)
+  pub hop_up : (s : List ℕ) (a b : ℕ) → Fixed (edge.Told (call.up a b) s)
+  pub hop_down : (s : List ℕ) (a b : ℕ) → Fixed (edge.Told (call.down a b) s)
+  pub hop_notice : (s : List ℕ) (a b : ℕ) → Fixed (edge.Told (call.notice a b) s)
+  pub hop_deliver : (s : List ℕ) (w u : ℕ) → Fixed (edge.Told (call.deliver w u) s)
   pub hop_size : (n : ℕ) → FixedAnswer (λ (r : ℕ). r ≡ size_of n)
   pub hop_pass : (s : List ℕ) → Fixed (edge.Answered (outcome call.pass s []))
   pub hop_run : (s : List ℕ) (k : ℕ) → Fixed (edge.Ran (outcome (call.run k) s []))
@@ -70,14 +70,14 @@ pub record DeterminedForC : Type 0 where
   pub hop_write_event : (out : List ℕ) (kind first second : ℕ) → Fixed (edge.Wrote (wrote_event kind first second out))
   pub hop_read_event : (s : List ℕ) (p : ℕ) → Fixed (edge.Read s p)
 
--- And no contract lets a call whose answer is an enum say that it is refused with 0, which means done: a node's route to itself, an empty queue, a pass at rest are values.
+-- And no contract lets a call say that it is refused with 0, which means done: a node's route to itself, an empty queue, a pass at rest are values.
 pub record NoneRefusedWith0 : Type 0 where
-  pub pass : (s t : List ℕ) → Passed s (answer_of_pass.Refused 0) t → ⊥
-  pub run : (s t : List ℕ) (k : ℕ) → Ran k s (answer_of_run.Refused 0) t → ⊥
-  pub route : (s : List ℕ) (u v : ℕ) → Directed u v s (answer_of_route.Refused 0) → ⊥
-  pub queue_length : (s : List ℕ) (w u : ℕ) → Asked (call.queue_length w u) s (Refused 0) → ⊥
-  pub total_queued : (s : List ℕ) → Asked call.total_queued s (Refused 0) → ⊥
-  pub status : (s out left : List ℕ) (u : ℕ) → Wrote (call.status u) s out (Refused 0) left → ⊥
-  pub worth : (s trial x : List ℕ) (list l : List ℤ) → Worth s trial list (Refused 0) x l → ⊥
-  pub why : (s list l : List ℕ) (u v : ℕ) → Why u v s list (answer_of_why.Refused 0) l → ⊥
-  pub write_event : (out left : List ℕ) (e : Event) → Writes (outcome (call.write_event e) [] out) (answer_of_writing.Refused 0) left → ⊥
+  pub pass : (s t : List ℕ) (r : Refused) → number r ≡ 0 → Passed s (Err r) t → ⊥
+  pub run : (s t : List ℕ) (k : ℕ) (r : Refused) → number r ≡ 0 → Ran k s (Err r) t → ⊥
+  pub route : (s : List ℕ) (u v : ℕ) (r : Refused) → number r ≡ 0 → Directed u v s (Err r) → ⊥
+  pub queue_length : (s : List ℕ) (w u : ℕ) (r : Refused) → number r ≡ 0 → Asked (call.queue_length w u) s (Err r) → ⊥
+  pub total_queued : (s : List ℕ) (r : Refused) → number r ≡ 0 → Asked call.total_queued s (Err r) → ⊥
+  pub status : (s out left : List ℕ) (u : ℕ) (r : Refused) → number r ≡ 0 → Wrote (call.status u) s out (Err r) left → ⊥
+  pub worth : (s trial x : List ℕ) (list l : List ℤ) (r : Refused) → number r ≡ 0 → Worth s trial list (Err r) x l → ⊥
+  pub why : (s list l : List ℕ) (u v : ℕ) (r : Refused) → number r ≡ 0 → Why u v s list (Err r) l → ⊥
+  pub write_event : (out left : List ℕ) (e : Event) (r : Refused) → number r ≡ 0 → Writes (outcome (call.write_event e) [] out) (Err r) left → ⊥

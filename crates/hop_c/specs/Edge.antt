@@ -1,9 +1,8 @@
--- What C callers get of a call's outcome: its number and its answers in a struct, a place for each. Answered, Ran, Wrote, Worth, Why and Read are the contracts; the calls that answer a number alone have hop_core's Told.
-use Rattle.std.specs.Prelude.{◌≡◌, List, ℕ, ℤ, get_or, if◌then◌else◌}
-use Rattle.hop_rule.specs.declared.Reading.{Reading}
+-- What C callers get of a call's outcome: its number and its answers in a struct, a place for each. Told, Answered, Ran, Wrote, Worth, Why and Read are the contracts.
+use Rattle.std.specs.Prelude.{◌≡◌, List, [], ℕ, ℤ, get_or, if◌then◌else◌}
 use Rattle.hop_rule.specs.Stored.{size}
-use Rattle.hop_rule.specs.Records.{number_of, answers_of, read_event, place_after}
-use Rattle.hop_rule.specs.Calls.{Outcome, bad_count, answer_at}
+use Rattle.hop_rule.specs.Records.{Reading, number_of, answers_of, read_event, place_after}
+use Rattle.hop_rule.specs.Calls.{Call, Outcome, bad_count, answer_at, outcome}
 use Rattle.hop_rule.specs.Worth.{Valued}
 use Rattle.hop_rule.specs.Why.{Explained}
 use Rattle.hop_c.specs.declared.HopAnswer.{HopAnswer}
@@ -25,6 +24,10 @@ ran o = record { code = o.number; passes = answer_at 0 o; deliveries = answer_at
 
 abbrev pub way : Outcome → HopWay
 way o = record { code = o.number; distance = answer_at 0 o; downstream = answer_at 1 o }
+
+-- The contract of a call that answers its number alone: with the bytes t that it leaves it makes the outcome.
+abbrev pub Told : Call → List ℕ → ℕ → List ℕ → Type 0
+Told c s number t = record { number = number; answers = []; bytes = t; output = [] } ≡ outcome c s []
 
 -- The contracts, for an outcome o: the struct is the outcome's, and so are the bytes that the call leaves, of the state or of the output.
 abbrev pub Answered : Outcome → HopAnswer → List ℕ → Type 0

@@ -1,5 +1,6 @@
 // The calls that C, C++ and Rust programs link: each is one call of the proved core, with the same definition in its contract, and counts on nothing.
 // Names, parameter order and widths are fixed: a call stays as it is, or goes by a change request, and then no program that names it links.
+// Numbers and kinds are numbers here, and a place for each answer is 0 at a refusal: that is what C reads.
 #![tactic(auto)]
 
 ghost use Rattle.std.specs.Prelude.{◌≡◌, [], ◌∷◌};
@@ -9,19 +10,16 @@ ghost use Rattle.hop_rule.specs.Records.{kind_of, body_of};
 ghost use Rattle.hop_rule.specs.Worth as worth;
 ghost use Rattle.hop_rule.specs.Why as why;
 ghost use Rattle.hop_core.specs.Answers as core;
-ghost use Rattle.hop_core.specs.Answers.{Told, passed};
 ghost use Rattle.hop_ask.specs.Answers.{asked, directed};
 ghost use Rattle.hop_why.specs.Answers.{explained};
-ghost use Rattle.hop_records.specs.Writing.{wrote, wrote_event};
-ghost use Rattle.hop_c.specs.Edge.{size_of, answer, ran, way, Answered, Ran, Wrote, Worth, why_reason, Why, event, reading, Read};
+ghost use Rattle.hop_records.specs.Writing.{wrote_event};
+ghost use Rattle.hop_c.specs.Edge.{size_of, Told, answer, ran, way, Answered, Ran, Wrote, Worth, why_reason, Why, event, reading, Read};
 
-use hop_ask::{Answer, RouteAnswer};
-use hop_cells::size;
-use hop_core::{PassAnswer, RunAnswer};
+use hop_cells::{Way, size};
 use hop_reader::read_from;
-use hop_records::{Written, numbers_of, write_kind};
-use hop_rule::{Event, Reading};
-use hop_why::WhyAnswer;
+use hop_records::{Numbers, write_kind};
+use hop_rule::{Event, Refused, code};
+use hop_why::Reason;
 
 // A number, and one answer.
 #[repr(C)]
@@ -69,118 +67,116 @@ pub struct HopReason {
 }
 
 // Each of the core's answers as the struct that says the same; no byte has a part in it.
-fn plain_answer(a: Answer) -> HopAnswer
-    ensures { result ≡ answer (asked a [] []) }
-{
-    match a {
-        Answer::Value(x) => HopAnswer { code: 0, value: x },
-        Answer::Refused(c) => HopAnswer { code: c, value: 0 },
+impl From<Result<u32, Refused>> for HopAnswer {
+    ghost from_gives = { λ a r. r ≡ answer (asked a [] []) };
+
+    fn from(a: Result<u32, Refused>) -> HopAnswer {
+        match a {
+            Ok(value) => HopAnswer { code: 0, value },
+            Err(r) => HopAnswer {
+                code: u32::from(r),
+                value: 0,
+            },
+        }
     }
 }
 
-fn plain_pass(a: PassAnswer) -> HopAnswer
-    ensures { result ≡ answer (passed a []) }
-{
-    match a {
-        PassAnswer::Delivered(d) => HopAnswer { code: 0, value: d },
-        PassAnswer::Refused(c) => HopAnswer { code: c, value: 0 },
+impl From<Result<hop_runs::Ran, Refused>> for HopRan {
+    ghost from_gives = { λ a r. r ≡ ran (core.ran a []) };
+
+    fn from(a: Result<hop_runs::Ran, Refused>) -> HopRan {
+        match a {
+            Ok(did) => HopRan {
+                code: 0,
+                passes: did.passes,
+                deliveries: did.deliveries,
+            },
+            Err(r) => HopRan {
+                code: u32::from(r),
+                passes: 0,
+                deliveries: 0,
+            },
+        }
     }
 }
 
-fn plain_run(a: RunAnswer) -> HopRan
-    ensures { result ≡ ran (core.ran a []) }
-{
-    match a {
-        RunAnswer::Made(p, d) => HopRan {
+impl From<Result<Way, Refused>> for HopWay {
+    ghost from_gives = { λ a r. r ≡ way (directed a []) };
+
+    fn from(a: Result<Way, Refused>) -> HopWay {
+        match a {
+            Ok(found) => HopWay {
+                code: 0,
+                distance: u32::from(found.distance),
+                downstream: u32::from(found.downstream),
+            },
+            Err(r) => HopWay {
+                code: u32::from(r),
+                distance: 0,
+                downstream: 0,
+            },
+        }
+    }
+}
+
+impl From<Result<Reason, Refused>> for HopReason {
+    ghost from_gives = { λ a r. r ≡ why_reason (explained a []) };
+
+    fn from(a: Result<Reason, Refused>) -> HopReason {
+        match a {
+            Ok(Reason::Path(count)) => HopReason {
+                code: 0,
+                kind: 1,
+                count,
+            },
+            Ok(Reason::Set(count)) => HopReason {
+                code: 0,
+                kind: 2,
+                count,
+            },
+            Err(r) => HopReason {
+                code: u32::from(r),
+                kind: 0,
+                count: 0,
+            },
+        }
+    }
+}
+
+impl From<Event> for HopEvent {
+    ghost from_gives = { λ e r. r ≡ event 0 (kind_of e ∷ body_of e) };
+
+    fn from(e: Event) -> HopEvent {
+        let p = Numbers::from(e);
+        HopEvent {
             code: 0,
-            passes: p,
-            deliveries: d,
-        },
-        RunAnswer::Refused(c) => HopRan {
-            code: c,
-            passes: 0,
-            deliveries: 0,
-        },
+            kind: p.kind,
+            first: u32::from(p.first),
+            second: u32::from(p.second),
+        }
     }
 }
 
-fn plain_route(a: RouteAnswer) -> HopWay
-    ensures { result ≡ way (directed a []) }
-{
-    match a {
-        RouteAnswer::Way(d, x) => HopWay {
-            code: 0,
-            distance: d,
-            downstream: x,
-        },
-        RouteAnswer::Refused(c) => HopWay {
-            code: c,
-            distance: 0,
-            downstream: 0,
-        },
-    }
-}
+impl From<Result<Option<(Event, usize)>, Refused>> for HopEvent {
+    ghost from_gives = { λ a r. r ≡ reading a };
 
-fn plain_why(a: WhyAnswer) -> HopReason
-    ensures { result ≡ why_reason (explained a []) }
-{
-    match a {
-        WhyAnswer::Path(k) => HopReason {
-            code: 0,
-            kind: 1,
-            count: k,
-        },
-        WhyAnswer::Set(k) => HopReason {
-            code: 0,
-            kind: 2,
-            count: k,
-        },
-        WhyAnswer::Refused(c) => HopReason {
-            code: c,
-            kind: 0,
-            count: 0,
-        },
-    }
-}
-
-fn plain_written(w: Written) -> HopAnswer
-    ensures { result ≡ answer (wrote w []) }
-{
-    match w {
-        Written::Bytes(k) => HopAnswer { code: 0, value: k },
-        Written::Refused(c) => HopAnswer { code: c, value: 0 },
-    }
-}
-
-fn plain_event(e: Event) -> HopEvent
-    ensures { result ≡ event 0 (kind_of e ∷ body_of e) }
-{
-    let p = numbers_of(e);
-    HopEvent {
-        code: 0,
-        kind: p.kind,
-        first: p.first as u32,
-        second: p.second as u32,
-    }
-}
-
-fn plain_reading(a: Reading) -> HopEvent
-    ensures { result ≡ reading a }
-{
-    match a {
-        Reading::Found(e, _) => plain_event(e),
-        Reading::End => HopEvent {
-            code: 0,
-            kind: 0,
-            first: 0,
-            second: 0,
-        },
-        Reading::Refused(c) => HopEvent {
-            code: c,
-            kind: 0,
-            first: 0,
-            second: 0,
-        },
+    #[tactic(auto, unfolding(hop_rule::specs::Records::answers_of))]
+    fn from(a: Result<Option<(Event, usize)>, Refused>) -> HopEvent {
+        match a {
+            Ok(Some((e, _))) => HopEvent::from(e),
+            Ok(None) => HopEvent {
+                code: 0,
+                kind: 0,
+                first: 0,
+                second: 0,
+            },
+            Err(r) => HopEvent {
+                code: u32::from(r),
+                kind: 0,
+                first: 0,
+                second: 0,
+            },
+        }
     }
 }
 
@@ -203,56 +199,56 @@ pub extern "C" fn hop_size(n: usize) -> usize
 pub extern "C" fn hop_make(state: &mut [u8], n: usize) -> u32
     ensures { Told (call.make n) state.old result state.new }
 {
-    hop_core::make(state, n)
+    code(hop_core::make(state, n))
 }
 
 #[unsafe(no_mangle)]
 pub extern "C" fn hop_check(state: &[u8]) -> u32
     ensures { Told call.check state.now result state.now }
 {
-    hop_core::check(state)
+    code(hop_core::check(state))
 }
 
 #[unsafe(no_mangle)]
 pub extern "C" fn hop_up(state: &mut [u8], a: usize, b: usize) -> u32
     ensures { Told (call.up a b) state.old result state.new }
 {
-    hop_core::up(state, a, b)
+    code(hop_core::up(state, a, b))
 }
 
 #[unsafe(no_mangle)]
 pub extern "C" fn hop_down(state: &mut [u8], a: usize, b: usize) -> u32
     ensures { Told (call.down a b) state.old result state.new }
 {
-    hop_core::down(state, a, b)
+    code(hop_core::down(state, a, b))
 }
 
 #[unsafe(no_mangle)]
 pub extern "C" fn hop_notice(state: &mut [u8], noticing: usize, other: usize) -> u32
     ensures { Told (call.notice noticing other) state.old result state.new }
 {
-    hop_core::notice(state, noticing, other)
+    code(hop_core::notice(state, noticing, other))
 }
 
 #[unsafe(no_mangle)]
 pub extern "C" fn hop_deliver(state: &mut [u8], from: usize, to: usize) -> u32
     ensures { Told (call.deliver from to) state.old result state.new }
 {
-    hop_core::deliver(state, from, to)
+    code(hop_core::deliver(state, from, to))
 }
 
 #[unsafe(no_mangle)]
 pub extern "C" fn hop_pass(state: &mut [u8]) -> HopAnswer
     ensures { Answered (outcome call.pass state.old []) result state.new }
 {
-    plain_pass(hop_core::pass(state))
+    HopAnswer::from(hop_core::pass(state))
 }
 
 #[unsafe(no_mangle)]
 pub extern "C" fn hop_run(state: &mut [u8], allowance: u8) -> HopRan
     ensures { Ran (outcome (call.run allowance) state.old []) result state.new }
 {
-    plain_run(hop_core::run(state, allowance))
+    HopRan::from(hop_core::run(state, allowance))
 }
 
 // The questions.
@@ -260,21 +256,21 @@ pub extern "C" fn hop_run(state: &mut [u8], allowance: u8) -> HopRan
 pub extern "C" fn hop_route(state: &[u8], node: usize, destination: usize) -> HopWay
     ensures { result ≡ way (outcome (call.route node destination) state.now []) }
 {
-    plain_route(hop_ask::route(state, node, destination))
+    HopWay::from(hop_ask::route(state, node, destination))
 }
 
 #[unsafe(no_mangle)]
 pub extern "C" fn hop_queue_length(state: &[u8], from: usize, to: usize) -> HopAnswer
     ensures { result ≡ answer (outcome (call.queue_length from to) state.now []) }
 {
-    plain_answer(hop_ask::queue_length(state, from, to))
+    HopAnswer::from(hop_ask::queue_length(state, from, to))
 }
 
 #[unsafe(no_mangle)]
 pub extern "C" fn hop_total_queued(state: &[u8]) -> HopAnswer
     ensures { result ≡ answer (outcome call.total_queued state.now []) }
 {
-    plain_answer(hop_ask::total_queued(state))
+    HopAnswer::from(hop_ask::total_queued(state))
 }
 
 // What each link is worth.
@@ -282,7 +278,7 @@ pub extern "C" fn hop_total_queued(state: &[u8]) -> HopAnswer
 pub extern "C" fn hop_worth(state: &[u8], trial: &mut [u8], lines: &mut [i32]) -> HopAnswer
     ensures { Worth (worth.worth state.now trial.old lines.old) result trial.new lines.new }
 {
-    plain_answer(hop_worth::worth(state, trial, lines))
+    HopAnswer::from(hop_worth::worth(state, trial, lines))
 }
 
 // Why a node reaches a destination in so many hops, or not at all.
@@ -295,7 +291,7 @@ pub extern "C" fn hop_why(
 ) -> HopReason
     ensures { Why (why.why node destination state.now list.old) result list.new }
 {
-    plain_why(hop_why::why(state, node, destination, list))
+    HopReason::from(hop_why::why(state, node, destination, list))
 }
 
 // The records.
@@ -303,14 +299,14 @@ pub extern "C" fn hop_why(
 pub extern "C" fn hop_status(state: &[u8], node: usize, out: &mut [u8]) -> HopAnswer
     ensures { Wrote (outcome (call.status node) state.now out.old) result out.new }
 {
-    plain_answer(hop_ask::status(state, node, out))
+    HopAnswer::from(hop_ask::status(state, node, out))
 }
 
 #[unsafe(no_mangle)]
 pub extern "C" fn hop_write_event(kind: u32, first: u16, second: u16, out: &mut [u8]) -> HopAnswer
     ensures { Wrote (wrote_event kind first second out.old) result out.new }
 {
-    plain_written(write_kind(kind, first, second, out))
+    HopAnswer::from(write_kind(kind, first, second, out))
 }
 
 #[unsafe(no_mangle)]
@@ -319,6 +315,5 @@ pub extern "C" fn hop_read_event(bytes: &[u8], place: &mut usize) -> HopEvent
 {
     let step = read_from(bytes, *place);
     *place = step.next;
-    let reading = step.reading;
-    plain_reading(reading)
+    HopEvent::from(step.reading)
 }

@@ -1,3 +1,5 @@
+pub mod Chains
 pub mod Loops
 pub mod Places
+pub mod Fills
 pub mod Read

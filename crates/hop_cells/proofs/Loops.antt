@@ -11,6 +11,3 @@ loop_end k n f a e h l = let z : k ≡ n = omega arith in e ∙ ap (λ (x : ℕ)
 
 pub sum_turn : (k : ℕ) (f : ℕ → ℕ) {b d : ℕ} → b ≡ sum k f → d ≡ f k → b + d ≡ sum (k + 1) f
 sum_turn k f e h = rw (add-one k, sum_more k f, ← e, ← h)
-
-pub sum_end : (k n : ℕ) (f : ℕ → ℕ) {b : ℕ} → b ≡ sum k f → k ≤ n → n ≤ k → b ≡ sum n f
-sum_end k n f e h l = let z : k ≡ n = omega arith in e ∙ ap (λ (x : ℕ). sum x f) z

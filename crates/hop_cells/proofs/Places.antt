@@ -37,11 +37,19 @@ stretch_most n a h =
     let q = rw (suc-mul a n, add-mul (a * n) n n) at p in
     omega (arith, add-mul (a * n) 0 n)
 
+-- A row of a block of n³ ends inside it.
+pub row_most : {n a b : ℕ} → a < n → b < n → (a * n + b) * n + n ≤ n * n * n
+row_most {n} {a} {b} ha hb = omega (arith, mul-le-mul_right n (cell2_lt ha hb), suc-mul (a * n + b) n)
+
 pub square_most : {n : ℕ} → n ≤ 40 → n * n ≤ 1600
 square_most h = mul-le-mul h h
 
 pub cube_most : {n : ℕ} → n ≤ 40 → n * n * n ≤ 64000
 cube_most h = mul-le-mul (square_most h) h
+
+pub size_most : {n : ℕ} → n ≤ 40 → size n ≤ 198401
+unfolding size
+size_most h = omega (arith, square_most h, cube_most h)
 
 -- ---- the blocks, by rank
 

@@ -1,5 +1,5 @@
 -- One byte of a stored state, read and written, and a row of them written: what the code's accessors do. n is handed in and not read again. Used by the code's own definitions; a buyer needs none of it.
-use Rattle.std.specs.Prelude.{◌≡◌, List, ℕ, ◌+◌, ◌*◌, ◌≤◌, ◌<◌, length, get_or, set}
+use Rattle.std.specs.Prelude.{◌≡◌, List, ℕ, ◌+◌, ◌*◌, ◌≤◌, length, get_or, set}
 use Rattle.hop_rule.specs.declared.Table.{Table}
 use Rattle.hop_rule.specs.declared.Table.TheVariants.{Links, Distances, Downstreams, Views, Lengths, Destinations, Values}
 use Rattle.hop_rule.specs.Words.{loop}
@@ -46,8 +46,10 @@ put3 n t a b c x s = put n t ((a * n + b) * n + c) x s
 pub record Reads (r : Way) (way : question.Way) : Type 0 where
   pub distance : r.distance ≡ way.distance
   pub downstream : r.downstream ≡ way.downstream
-  pub distance_byte : r.distance < 256
-  pub downstream_byte : r.downstream < 256
+
+-- k bytes of a block become x, those from byte i on.
+unfoldable pub fill_cells : ℕ → Table → ℕ → ℕ → ℕ → List ℕ → List ℕ
+fill_cells n t i k x s = loop k (λ c. put n t (i + c) x) s
 
 -- Every place of row a, b of a block of n³ becomes x.
 unfoldable pub fill : ℕ → Table → ℕ → ℕ → ℕ → List ℕ → List ℕ

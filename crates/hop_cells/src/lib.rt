@@ -1,7 +1,7 @@
-// One byte of a stored state by name: where it stands, reading it, writing it; and a row of them written. `wide` and `least` serve all the code.
+// One byte of a stored state by name: where it stands, reading it, writing it; and a row of them written.
 #![tactic(auto)]
 
-ghost use Rattle.std.specs.Prelude.{◌≡◌, ◌+◌, ◌*◌, ◌<◌, ◌≤◌, min, length};
+ghost use Rattle.std.specs.Prelude.{◌≡◌, ◌+◌, ◌*◌, ◌<◌, ◌≤◌, length};
 ghost use Rattle.hop_rule.specs.Route as question;
 ghost use Rattle.hop_rule.specs.Stored as stored;
 ghost use Rattle.hop_cells.specs.Cells as cell;
@@ -9,25 +9,13 @@ ghost use Rattle.hop_cells.specs.Cells.{Room, cells, Reads};
 
 use hop_rule::Table;
 
-pub fn wide(x: u8) -> usize
-    ensures { (result ≡ x) × (result < 256) }
-{
-    x as usize
-}
-
-// The smaller of two numbers.
-pub fn least(a: usize, b: usize) -> usize
-    ensures { result ≡ min a b }
-{
-    if a < b { a } else { b }
-}
-
 // The node count that the bytes claim: their first.
+#[tactic(auto, unfolding(hop_rule::specs::Stored::nodes))]
 pub fn nodes(s: &[u8]) -> usize
     requires { 0 < length s.now }
     ensures { result ≡ stored.nodes s.now }
 {
-    wide(s[0])
+    usize::from(s[0])
 }
 
 // The bytes of a block of n², and of one of n³.
@@ -46,6 +34,7 @@ pub fn cube(n: usize) -> usize
 }
 
 // The bytes of a state of n nodes.
+#[tactic(auto, unfolding(hop_rule::specs::Stored::size))]
 pub fn size(n: usize) -> usize
     requires { n ≤ 40 }
     ensures { result ≡ stored.size n }
@@ -54,6 +43,7 @@ pub fn size(n: usize) -> usize
 }
 
 // Where a block starts.
+#[tactic(auto, unfolding(hop_rule::specs::Stored::start))]
 pub fn start(n: usize, t: Table) -> usize
     requires { n ≤ 40 }
     ensures { result ≡ stored.start n t }
@@ -72,6 +62,7 @@ pub fn start(n: usize, t: Table) -> usize
 }
 
 // The index of a row and a column, and of two rows and a column.
+// `pair` and `triple`, `get2` and `get3`, `put2` and `put3` stay apart: one function over a trait for the place would need an impl, two ghost members and a law for each of the two tuples, where each of these is one line.
 pub fn pair(n: usize, a: usize, b: usize) -> usize
     requires { (n ≤ 40) × (a < n) × (b < n) }
     ensures { (result ≡ a * n + b) × (result < n * n) }
@@ -86,61 +77,82 @@ pub fn triple(n: usize, a: usize, b: usize, c: usize) -> usize
     pair(n, a, b) * n + c
 }
 
-// Byte i of a block.
-pub fn get(s: &[u8], n: usize, t: Table, i: usize) -> u8
-    requires { Room n s.now × (i < cells n t) }
-    ensures { result ≡ cell.get n t i s.now }
+// Where byte i of a block stands: inside the state.
+fn at(n: usize, t: Table, i: usize) -> usize
+    requires { (n ≤ 40) × (i < cells n t) }
+    ensures { (result ≡ stored.start n t + i) × (result < stored.size n) }
 {
-    let at = start(n, t) + i;
-    s[at]
+    start(n, t) + i
 }
 
-pub fn put(s: &mut [u8], n: usize, t: Table, i: usize, x: u8)
-    requires { Room n s.old × (i < cells n t) }
-    ensures { s.new ≡ cell.put n t i x s.old }
-{
-    let at = start(n, t) + i;
-    s[at] = x;
-}
-
-// The byte at a row and a column of a block of n².
-pub fn get2(s: &[u8], n: usize, t: Table, a: usize, b: usize) -> usize
-    requires { Room n s.now × (a < n) × (b < n) × (cells n t ≡ n * n) }
-    ensures { (result ≡ cell.get2 n t a b s.now) × (result < 256) }
-{
-    wide(get(s, n, t, pair(n, a, b)))
-}
-
-pub fn put2(s: &mut [u8], n: usize, t: Table, a: usize, b: usize, x: u8)
-    requires { Room n s.old × (a < n) × (b < n) × (cells n t ≡ n * n) }
-    ensures { s.new ≡ cell.put2 n t a b x s.old }
-{
-    put(s, n, t, pair(n, a, b), x);
+// The bytes of a state and its node count, which they have room for: what is read. By value it is as fast as the bytes and the count by themselves.
+// What writes takes bytes and count apart: a struct of the two behind a `&mut` made a pass take 1.4 to 1.9 times as long.
+#[derive(Clone, Copy)]
+pub struct Stored<'a> {
+    pub bytes: &'a [u8],
+    pub n: usize,
+    pub ghost room: { Room n bytes.now },
 }
 
 // What a node has for a destination, hops and direction read at once (02, R-4).
 #[derive(Clone, Copy)]
 pub struct Way {
-    pub distance: usize,
-    pub downstream: usize,
+    pub distance: u8,
+    pub downstream: u8,
 }
 
-pub fn route(s: &[u8], n: usize, u: usize, v: usize) -> Way
-    requires { Room n s.now × (u < n) × (v < n) }
-    ensures { Reads result (question.route (stored.read_as n s.now) u v) }
-{
-    Way {
-        distance: get2(s, n, Table::Distances, u, v),
-        downstream: get2(s, n, Table::Downstreams, u, v),
+impl<'a> Stored<'a> {
+    // Byte i of a block.
+    #[tactic(auto, unfolding(crate::specs::Cells::get))]
+    pub fn get(self, t: Table, i: usize) -> u8
+        requires { i < cells self.n t }
+        ensures { result ≡ cell.get self.entry.n t i self.entry.bytes.now }
+    {
+        self.bytes[at(self.n, t, i)]
+    }
+
+    // The byte at a row and a column of a block of n², and of two rows and a column of a block of n³.
+    pub fn get2(self, t: Table, a: usize, b: usize) -> usize
+        requires { (a < self.n) × (b < self.n) × (cells self.n t ≡ self.n * self.n) }
+        ensures { (result ≡ cell.get2 self.entry.n t a b self.entry.bytes.now) × (result < 256) }
+    {
+        usize::from(self.get(t, pair(self.n, a, b)))
+    }
+
+    pub fn get3(self, t: Table, a: usize, b: usize, c: usize) -> usize
+        requires { (a < self.n) × (b < self.n) × (c < self.n) × (cells self.n t ≡ self.n * self.n * self.n) }
+        ensures { (result ≡ cell.get3 self.entry.n t a b c self.entry.bytes.now) × (result < 256) }
+    {
+        usize::from(self.get(t, triple(self.n, a, b, c)))
+    }
+
+    #[tactic(auto, unfolding(hop_rule::specs::Stored::read_as, hop_rule::specs::Stored::flat, crate::specs::Cells::get))]
+    pub fn route(self, u: usize, v: usize) -> Way
+        requires { (u < self.n) × (v < self.n) }
+        ensures { Reads result (question.route (stored.read_as self.entry.n self.entry.bytes.now) u v) }
+    {
+        Way {
+            distance: self.get(Table::Distances, pair(self.n, u, v)),
+            downstream: self.get(Table::Downstreams, pair(self.n, u, v)),
+        }
     }
 }
 
-// And of a block of n³.
-pub fn get3(s: &[u8], n: usize, t: Table, a: usize, b: usize, c: usize) -> usize
-    requires { Room n s.now × (a < n) × (b < n) × (c < n) × (cells n t ≡ n * n * n) }
-    ensures { (result ≡ cell.get3 n t a b c s.now) × (result < 256) }
+// Byte i of a block is written,
+#[tactic(auto, unfolding(crate::specs::Cells::put))]
+pub fn put(s: &mut [u8], n: usize, t: Table, i: usize, x: u8)
+    requires { Room n s.old × (i < cells n t) }
+    ensures { s.new ≡ cell.put n t i x s.old }
 {
-    wide(get(s, n, t, triple(n, a, b, c)))
+    s[at(n, t, i)] = x;
+}
+
+// and the byte at a row and a column of a block of n², and of two rows and a column of a block of n³.
+pub fn put2(s: &mut [u8], n: usize, t: Table, a: usize, b: usize, x: u8)
+    requires { Room n s.old × (a < n) × (b < n) × (cells n t ≡ n * n) }
+    ensures { s.new ≡ cell.put2 n t a b x s.old }
+{
+    put(s, n, t, pair(n, a, b), x);
 }
 
 pub fn put3(s: &mut [u8], n: usize, t: Table, a: usize, b: usize, c: usize, x: u8)
@@ -150,12 +162,19 @@ pub fn put3(s: &mut [u8], n: usize, t: Table, a: usize, b: usize, c: usize, x: u
     put(s, n, t, triple(n, a, b, c), x);
 }
 
+// k bytes of a block become x, those from byte i on.
+pub fn fill_cells(s: &mut [u8], n: usize, t: Table, i: usize, k: usize, x: u8)
+    requires { Room n s.old × (i + k ≤ cells n t) }
+    ensures { s.new ≡ cell.fill_cells n t i k x s.old }
+{
+    let from = start(n, t) + i;
+    s[from..from + k].fill(x);
+}
+
 // Every place of a row of a block of n³ becomes x.
 pub fn fill(s: &mut [u8], n: usize, t: Table, a: usize, b: usize, x: u8)
     requires { Room n s.old × (a < n) × (b < n) × (cells n t ≡ n * n * n) }
     ensures { s.new ≡ cell.fill n t a b x s.old }
 {
-    for c in 0..n {
-        put3(s, n, t, a, b, c, x);
-    }
+    fill_cells(s, n, t, triple(n, a, b, 0), n, x);
 }

@@ -18,6 +18,7 @@ use Rattle.hop_rule.specs.Worth as worth
 use Rattle.hop_laws.proofs.Tests.{tells_lt, tells_and}
 use Rattle.hop_laws.proofs.Words.{sum_none, sum_most, sum_rows}
 use Rattle.hop_cells.specs.Cells.{get}
+use Rattle.hop_cells.proofs.Chains.{passing_most}
 use Rattle.hop_cells.proofs.Loops.{sum_turn}
 use Rattle.hop_changes.specs.Changes.{lost_at, hops_at}
 
@@ -27,6 +28,11 @@ module _ (n : ℕ) (s t : List ℕ) where
   pub lost_all : sum (n * n) (lost_at n s t) ≡ worth.lost n (flat n s Distances) (flat n t Distances)
   unfolding lost_at worth.lost flat get
   lost_all = sum_rows n n (lost_at n s t)
+
+  -- At most one each.
+  pub lost_most : (k : ℕ) → sum k (lost_at n s t) ≤ k
+  unfolding lost_at
+  lost_most k = passing_most k _
 
   pub hops_all : sum (n * n) (hops_at n s t) ≡ worth.hops n (flat n s Distances) (flat n t Distances)
   unfolding hops_at worth.hops flat get
@@ -57,20 +63,18 @@ either : (P : ℤ → Type 0) (b : Bool) {x y : ℤ} → P x → P y → P (cond
 either P true h k = h
 either P false h k = k
 
-pub diff_fits : (x y : ℕ) → x ≤ 64000 → y ≤ 64000 → SFits w32 (pos x -ℤ pos y)
+diff_fits : (x y : ℕ) → x ≤ 64000 → y ≤ 64000 → SFits w32 (pos x -ℤ pos y)
 diff_fits x zero l k = record { sfits = omega arith }
 diff_fits x (suc y) l k = record { sfits = either (λ z. mag z < 2147483648) (ltb x (suc y)) (omega arith) (omega arith) }
-
-pub small : (x : ℕ) → x ≤ 64000 → to_z w32 x ≡ pos x
-small x l = to_z-of_z w32 (pos x) (record { sfits = omega arith })
-
-pub bytes_fit : (x y : ℕ) → x ≤ 64000 → y ≤ 64000 → SFits w32 (to_z w32 x -ℤ to_z w32 y)
-bytes_fit x y l k = rw (small x l, small y k) (diff_fits x y l k)
 
 -- A signed number that goes through 32 bits.
 pub signed_kept : (z : ℤ) → nat_abs z ≤ 64000 → to_z w32 (of_z w32 z) ≡ z
 signed_kept (pos k) l = to_z-of_z w32 (pos k) (record { sfits = omega (arith, l) })
 signed_kept (negsuc k) l = to_z-of_z w32 (negsuc k) (record { sfits = omega (arith, l) })
+
+-- A byte does.
+pub byte_kept : {z : ℤ} {k : ℕ} → z ≡ pos k → k ≤ 64000 → to_z w32 (of_z w32 z) ≡ pos k
+byte_kept {k = k} e l = ap (λ (x : ℤ). to_z w32 (of_z w32 x)) e ∙ signed_kept (pos k) l
 
 and_back : (b c : Bool) → b && c ≡ c && b
 and_back true true = refl

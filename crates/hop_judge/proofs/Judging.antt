@@ -1,68 +1,85 @@
 -- How the code's tests meet the list of refusals: what the first of them refuse is refused; where none of them applies, the next decides. So an answer tells the call's outcome. Assumes nothing.
-use Rattle.std.specs.Prelude.{if◌then◌else◌}
-use mathlib.Core.Path.{◌≡◌, refl, sym, ap, ap₂, ◌∙◌}
+use Rattle.std.specs.Prelude.{Result, Ok, Err, if◌then◌else◌}
+use mathlib.Core.Path.{◌≡◌, refl, sym, ap, ◌∙◌}
 use mathlib.Core.Logic.{◌≢◌}
 use mathlib.Core.Bool.{Bool, true, false}
 use mathlib.Core.List.{List, [], ◌∷◌, ◌++◌}
-use Prim.Native.Nat.{ℕ, zero, suc}
+use Prim.Native.Nat.{ℕ}
 use native.Mathlib.Omega.{arith}
 use lib.ListN.{length}
 use borrow.Author.Tests.{eq-eqb, ne_eqb}
+use Rattle.std.specs.Result.{IsErrAnd}
+use Rattle.std.proofs.lemmas.Result.{err_from_is_err_and}
+use Rattle.hop_rule.specs.declared.Refused.{Refused}
+use Rattle.hop_rule.specs.declared.Refused.TheVariants.{Short}
+use Rattle.hop_rule.specs.Refused.{number, code}
 use Rattle.hop_rule.specs.Stored.{size, nodes}
 use Rattle.hop_rule.specs.Calls.{Call, make, Refusal, judge, empty, bad_count, short, on_state, refusals, refused, done, outcome}
 use Rattle.hop_laws.proofs.Calls.{judge_applies, judge_next, judge_first, judge_passed, Numbered, outcome_done, outcome_refused}
-use Rattle.hop_judge.specs.declared.Judged.{Judged}
-use Rattle.hop_judge.specs.declared.Judged.TheVariants.{Go, Refused}
-use Rattle.hop_judge.specs.Verdict.{verdict}
+use Rattle.hop_laws.proofs.Refused.{number_some, number_fixes}
+use Rattle.hop_judge.specs.Verdict.{Judges}
+
+-- What `?` hands on is the refusal that it met.
+pub handed_on : {A : Type 0} (i : Result A Refused) {r : Refused} → IsErrAnd i (λ t. t ≡ r) → i ≡ Err r
+handed_on i h = let (t, is, same) = err_from_is_err_and i h in rw same at is
 
 -- Which case an answer is tells the number.
-pub gone : (c m : ℕ) {j : Judged} → j ≡ verdict c m → {n : ℕ} → j ≡ Go n → (c ≡ 0) × (n ≡ m)
-unfolding verdict
-gone zero m e g = (refl, cc)
-gone (suc c) m e g = let never : ◌≡◌ {A = ℕ} 0 1 = cc (ne_eqb (suc c) 0 (λ z. omega arith)) in absurd (omega arith)
+pub gone : (c m : ℕ) {j : Result ℕ Refused} → Judges c m j → {n : ℕ} → j ≡ Ok n → (c ≡ 0) × (n ≡ m)
+gone c m h {n} g = (sym h.number ∙ ap code g, h.count n g)
 
-pub stopped : (c m : ℕ) {j : Judged} → j ≡ verdict c m → {k : ℕ} → j ≡ Refused k → (k ≡ c) × (k ≢ 0)
-unfolding verdict
-stopped zero m e f = let never : ◌≡◌ {A = ℕ} 0 1 = cc in absurd (omega arith)
-stopped (suc c) m e {k} f = let same : k ≡ suc c = cc (ne_eqb (suc c) 0 (λ z. omega arith)) in (same, λ z. omega arith)
+pub stopped : (c m : ℕ) {j : Result ℕ Refused} → Judges c m j → {r : Refused} → j ≡ Err r → (number r ≡ c) × (c ≢ 0)
+stopped c m h {r} f = let same : number r ≡ c = sym (ap code f) ∙ h.number in (same, λ z. number_some r (same ∙ z))
+
+-- And the number tells the case.
+pub goes : {c m : ℕ} → c ≡ 0 → Judges c m (Ok m)
+goes z = record { number = sym z; count = λ k g. cc }
+
+pub stops : {c m : ℕ} {r : Refused} → number r ≡ c → Judges c m (Err r)
+stops same = record { number = same; count = λ k g. let never : ◌≡◌ {A = ℕ} 0 1 = cc in absurd (omega arith) }
+
+-- No call is judged in two ways.
+pub judged_once : (c m : ℕ) (i j : Result ℕ Refused) → Judges c m i → Judges c m j → i ≡ j
+judged_once c m (Ok n) (Ok k) p q = ap Ok (p.count n refl ∙ sym (q.count k refl))
+judged_once c m (Ok n) (Err r) p q = absurd (number_some r (q.number ∙ sym p.number))
+judged_once c m (Err r) (Ok n) p q = absurd (number_some r (p.number ∙ sym q.number))
+judged_once c m (Err r) (Err t) p q = ap Err (number_fixes r t (p.number ∙ sym q.number))
+
+-- An answer to one number is an answer to an equal one.
+judges_as : {c d m n : ℕ} {j : Result ℕ Refused} → c ≡ d → m ≡ n → Judges c m j → Judges d n j
+judges_as p q h = record { number = h.number ∙ p; count = λ k g. h.count k g ∙ q }
 
 module _ (r : Refusal) (more : List Refusal) (m : ℕ) where
-  pub first_refuses : r.applies ≡ true → verdict r.number m ≡ verdict (judge (r ∷ more)) m
-  first_refuses t = ap (λ c. verdict c m) (sym (judge_applies r more t))
+  pub first_refuses : r.applies ≡ true → {e : Refused} → number e ≡ r.number → Judges (judge (r ∷ more)) m (Err e)
+  first_refuses t h = stops (h ∙ sym (judge_applies r more t))
 
-  pub first_passes : r.applies ≡ false → verdict (judge more) m ≡ verdict (judge (r ∷ more)) m
-  first_passes t = ap (λ c. verdict c m) (sym (judge_next r more t))
+  pub first_passes : r.applies ≡ false → {j : Result ℕ Refused} → Judges (judge more) m j → Judges (judge (r ∷ more)) m j
+  first_passes t h = judges_as (sym (judge_next r more t)) refl h
 
 -- After the first of them.
-module _ (rs : List Refusal) (m : ℕ) {j : Judged} (e : j ≡ verdict (judge rs) m) where
-  pub refused_already : (more : List Refusal) → ((n : ℕ) → j ≡ Go n → ⊥) → j ≡ verdict (judge (rs ++ more)) m
-  refused_already more f = go j refl
-    where
-      go : (i : Judged) → j ≡ i → j ≡ verdict (judge (rs ++ more)) m
-      go (Go n) g = absurd (f n g)
-      go (Refused k) g = let (same, some) = stopped _ _ e g in e ∙ ap (λ c. verdict c m) (sym (judge_first rs more (λ z. some (same ∙ z))))
+module _ (rs : List Refusal) (m : ℕ) {j : Result ℕ Refused} (h : Judges (judge rs) m j) where
+  pub refused_already : (more : List Refusal) → {r : Refused} → j ≡ Err r → {i : Result ℕ Refused} → i ≡ Err r → Judges (judge (rs ++ more)) m i
+  refused_already more f back = let (same, some) = stopped _ _ h f in rw back (stops (same ∙ sym (judge_first rs more some)))
 
   -- The code's test b is the refusal's, by the count that it goes on with.
-  pub judged_next : (r : Refusal) → Numbered rs → {n : ℕ} → j ≡ Go n → {b : Bool} → (n ≡ m → b ≡ r.applies) → {i : Judged} → i ≡ verdict (if b then r.number else 0) n → i ≡ verdict (judge (rs ++ (r ∷ []))) m
+  pub judged_next : (r : Refusal) → Numbered rs → {n : ℕ} → j ≡ Ok n → {b : Bool} → (n ≡ m → b ≡ r.applies) → {i : Result ℕ Refused} → Judges (if b then r.number else 0) n i → Judges (judge (rs ++ (r ∷ []))) m i
   unfolding judge
-  judged_next r positive g same h =
-      let (none, claim) = gone _ _ e g in
-      h ∙ ap₂ (λ b k. verdict (if b then r.number else 0) k) (same claim) claim ∙ ap (λ c. verdict c m) (sym (judge_passed rs (r ∷ []) positive none))
+  judged_next r positive g same next =
+      let (none, claim) = gone _ _ h g in
+      judges_as (ap (λ b. if b then r.number else 0) (same claim) ∙ sym (judge_passed rs (r ∷ []) positive none)) claim next
 
 -- An empty buffer is refused before anything else.
-pub empty_refused : (s : List ℕ) → length s ≡ 0 → Refused 2 ≡ verdict (judge (on_state s [])) (nodes s)
-unfolding verdict
-empty_refused s e = first_refuses (empty s) _ _ (eq-eqb _ _ e)
+pub empty_refused : (s : List ℕ) → length s ≡ 0 → Judges (judge (on_state s [])) (nodes s) (Err Short)
+empty_refused s e = first_refuses (empty s) _ (nodes s) (eq-eqb _ _ e) refl
 
 -- A buffer that is not empty is judged by the count that its first byte claims.
-pub claimed : (s : List ℕ) → length s ≢ 0 → {n : ℕ} → n ≡ nodes s → {j : Judged} → j ≡ verdict (judge (refusals (make n) s [])) n → j ≡ verdict (judge (empty s ∷ bad_count (nodes s) ∷ short s (size (nodes s)) ∷ [])) (nodes s)
+pub claimed : (s : List ℕ) → length s ≢ 0 → {n : ℕ} → n ≡ nodes s → {j : Result ℕ Refused} → Judges (judge (refusals (make n) s [])) n j → Judges (judge (empty s ∷ bad_count (nodes s) ∷ short s (size (nodes s)) ∷ [])) (nodes s) j
 unfolding refusals
-claimed s some claim e = rw claim at e ∙ first_passes (empty s) _ (nodes s) (ne_eqb _ _ some)
+claimed s some claim h = first_passes (empty s) _ (nodes s) (ne_eqb _ _ some) (judges_as (ap (λ m. judge (refusals (make m) s [])) claim) claim h)
 
 -- A call is refused with the number of the answer, or done where it goes on.
-module _ (c : Call) (s out : List ℕ) (m : ℕ) {j : Judged} (e : j ≡ verdict (judge (refusals c s out)) m) where
-  pub call_refused : {k : ℕ} → j ≡ Refused k → refused k s out ≡ outcome c s out
-  call_refused f = let (same, some) = stopped _ _ e f in ap (λ i. refused i s out) same ∙ sym (outcome_refused c s out (λ z. some (same ∙ z)))
+module _ (c : Call) (s out : List ℕ) (m : ℕ) {j : Result ℕ Refused} (h : Judges (judge (refusals c s out)) m j) where
+  pub call_refused : {r : Refused} → j ≡ Err r → refused (number r) s out ≡ outcome c s out
+  call_refused f = let (same, some) = stopped _ _ h f in ap (λ i. refused i s out) same ∙ sym (outcome_refused c s out some)
 
-  pub call_done : {n : ℕ} → j ≡ Go n → done c s out ≡ outcome c s out
-  call_done g = sym (outcome_done c s out (gone _ _ e g).0)
+  pub call_done : {n : ℕ} → j ≡ Ok n → done c s out ≡ outcome c s out
+  call_done g = sym (outcome_done c s out (gone _ _ h g).0)

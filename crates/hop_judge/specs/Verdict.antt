@@ -1,7 +1,8 @@
--- What is judged of a call, by the number of the first of its refusals that applies: at 0 it goes on, with a state of n nodes; at any other it is refused.
-use Rattle.std.specs.Prelude.{ℕ, eqb, if◌then◌else◌}
-use Rattle.hop_judge.specs.declared.Judged.{Judged}
-use Rattle.hop_judge.specs.declared.Judged.TheVariants.{Go, Refused}
+-- What is judged of a call, by the number c of the first of its refusals that applies: at 0 it goes on, with a state of n nodes; at any other it is refused with that number.
+use Rattle.std.specs.Prelude.{◌≡◌, ℕ, Result, Ok}
+use Rattle.hop_rule.specs.declared.Refused.{Refused}
+use Rattle.hop_rule.specs.Refused.{code}
 
-unfoldable pub verdict : ℕ → ℕ → Judged
-verdict c n = if eqb c 0 then Go n else Refused c
+pub record Judges (c n : ℕ) (judged : Result ℕ Refused) : Type 0 where
+  pub number : code judged ≡ c
+  pub count : (m : ℕ) → judged ≡ Ok m → m ≡ n

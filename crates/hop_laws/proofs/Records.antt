@@ -2,6 +2,7 @@
 use mathlib.Core.Path.{◌≡◌, refl, sym, ap, subst₂, ◌∙◌}
 use mathlib.Core.Logic.{inl, inr}
 use mathlib.Core.Bool.{Bool, true, false, not, cond}
+use Rattle.std.specs.Prelude.{Some, None, Ok, Err}
 use mathlib.Core.List.{List, [], ◌∷◌, ◌++◌}
 use Prim.Native.Nat.{ℕ, zero, suc, ◌+◌, ◌*◌, ◌-◌, ◌/◌, ◌%◌, ◌≤◌, ◌<◌}
 use native.Mathlib.Decide.{dec_lt}
@@ -13,17 +14,17 @@ use lib.Seq.{drop-cons, take_at, get_or-append-add}
 use borrow.Author.Tests.{ltb-false, eqb-true, not-false, le-ltb, eq-eqb, ne_eqb}
 use Rattle.hop_rule.specs.declared.Event.{Event}
 use Rattle.hop_rule.specs.declared.Event.TheVariants.{Make, Up, Down, Deliver, Pass, Notice}
-use Rattle.hop_rule.specs.declared.Reading.{Reading}
-use Rattle.hop_rule.specs.declared.Reading.TheVariants.{Found, End, Refused}
+use Rattle.hop_rule.specs.declared.Refused.{Refused}
+use Rattle.hop_rule.specs.declared.Refused.TheVariants.{CutShort, UnknownKind, WrongLength}
 use Rattle.hop_rule.specs.State.{State}
-use Rattle.hop_rule.specs.Records.{words, word_at, record_of, kind_of, body_of, event_record, status_record, known, length_of, event_of, event_at, read_event}
+use Rattle.hop_rule.specs.Records.{words, word_at, record_of, kind_of, body_of, event_record, status_record, known, length_of, event_of, event_at, Reading, read_event}
 use Rattle.hop_laws.proofs.Tests.{tells_eq, tells_or}
 
 pub length_status : (s : State) (u : ℕ) → length (status_record s u) ≡ 14
 unfolding status_record record_of words
 length_status s u = refl
 
-length_words : (xs : List ℕ) → length (words xs) ≡ 2 * length xs
+pub length_words : (xs : List ℕ) → length (words xs) ≡ 2 * length xs
 unfolding words
 length_words [] = refl
 length_words (x ∷ xs) = omega (arith, length_words xs)
@@ -145,7 +146,7 @@ record Reads (s : List ℕ) (p : ℕ) (e : Event) (q : ℕ) : Type 0 where
   next : q ≡ p + length (event_record e)
   fits : q ≤ length s
 
-reads_found : {s : List ℕ} {p : ℕ} {e : Event} {q : ℕ} → Reads s p e q → read_event s p ≡ Found e q
+reads_found : {s : List ℕ} {p : ℕ} {e : Event} {q : ℕ} → Reads s p e q → read_event s p ≡ Ok (Some (e, q))
 unfolding read_event
 reads_found {s} {p} {e} {q} h =
     let long : word_at s p ≡ length_of (kind_of e) = cc (h.here, length_event e) in
@@ -182,34 +183,35 @@ event_at_reads s p k kind long fits =
 
 -- What is found was not refused, and is not the end.
 module _ {e : Event} {q : ℕ} where
-  not_refused : (k : ℕ) → Refused k ≡ Found e q → ⊥
-  not_refused k h = let z : ◌≡◌ {A = ℕ} 0 1 = cc in omega arith
+  not_refused : (r : Refused) → ◌≡◌ {A = Reading} (Err r) (Ok (Some (e, q))) → ⊥
+  not_refused r h = let z : ◌≡◌ {A = ℕ} 0 1 = cc in omega arith
 
-  not_end : End ≡ Found e q → ⊥
+  not_end : ◌≡◌ {A = Reading} (Ok None) (Ok (Some (e, q))) → ⊥
   not_end h = let z : ◌≡◌ {A = ℕ} 0 1 = cc in omega arith
 
-  found_else : (b : Bool) (x y : Reading) → (x ≡ Found e q → ⊥) → cond b x y ≡ Found e q → (b ≡ false) × (y ≡ Found e q)
+  found_else : (b : Bool) (x y : Reading) → (x ≡ Ok (Some (e, q)) → ⊥) → cond b x y ≡ Ok (Some (e, q)) → (b ≡ false) × (y ≡ Ok (Some (e, q)))
   found_else true x y f h = absurd (f h)
   found_else false x y f h = (refl, h)
 
-found_reads : (s : List ℕ) (p : ℕ) {e : Event} {q : ℕ} → read_event s p ≡ Found e q → Reads s p e q
+found_reads : (s : List ℕ) (p : ℕ) {e : Event} {q : ℕ} → read_event s p ≡ Ok (Some (e, q)) → Reads s p e q
 unfolding read_event
 found_reads s p {e} {q} h =
-    let (inside, h₁) = found_else (ltb (length s) p) _ _ (not_refused 9) h in
+    let (inside, h₁) = found_else (ltb (length s) p) _ _ (not_refused CutShort) h in
     let (some, h₂) = found_else (eqb (length s) p) _ _ not_end h₁ in
-    let (four, h₃) = found_else (ltb (length s) (p + 4)) _ _ (not_refused 9) h₂ in
-    let (kind, h₄) = found_else (not (known (word_at s (p + 2)))) _ _ (not_refused 10) h₃ in
-    let (long, h₅) = found_else (not (eqb (word_at s p) (length_of (word_at s (p + 2))))) _ _ (not_refused 11) h₄ in
-    let (whole, h₆) = found_else (ltb (length s) (p + 2 + word_at s p)) _ _ (not_refused 9) h₅ in
+    let (four, h₃) = found_else (ltb (length s) (p + 4)) _ _ (not_refused CutShort) h₂ in
+    let (kind, h₄) = found_else (not (known (word_at s (p + 2)))) _ _ (not_refused UnknownKind) h₃ in
+    let (long, h₅) = found_else (not (eqb (word_at s p) (length_of (word_at s (p + 2))))) _ _ (not_refused WrongLength) h₄ in
+    let (whole, h₆) = found_else (ltb (length s) (p + 2 + word_at s p)) _ _ (not_refused CutShort) h₅ in
     let (k, z) = known_kind (word_at s (p + 2)) (not-false _ kind) in
-    let event : event_at (kind_of k) s (p + 4) ≡ e = cc in
-    let next : p + 2 + word_at s p ≡ q = cc in
+    let both : ◌≡◌ {A = Event × ℕ} (event_at (word_at s (p + 2)) s (p + 4), p + 2 + word_at s p) (e, q) = cc in
+    let event : event_at (kind_of k) s (p + 4) ≡ e = cc (ap (λ x. x.0) both) in
+    let next : p + 2 + word_at s p ≡ q = ap (λ x. x.1) both in
     subst₂ (Reads s p) event next (event_at_reads s p k z (rw z (eqb-true _ _ (not-false _ long))) (ltb-false (length s) (p + 2 + word_at s p) whole))
 
 -- ---- the two laws
 
 -- Whatever the event's numbers are: nothing is cut off in writing.
-pub read_written : (e : Event) (before after : List ℕ) → read_event (before ++ (event_record e ++ after)) (length before) ≡ Found e (length before + length (event_record e))
+pub read_written : (e : Event) (before after : List ℕ) → read_event (before ++ (event_record e ++ after)) (length before) ≡ Ok (Some (e, length before + length (event_record e)))
 unfolding event_record record_of
 read_written e before after =
     let r : List ℕ = event_record e ++ after in
@@ -221,7 +223,7 @@ read_written e before after =
       fits = omega (arith, length-append before (event_record e ++ after), length-append (event_record e) after);
     })
 
-module _ (s : List ℕ) (p : ℕ) {e : Event} {q : ℕ} (found : read_event s p ≡ Found e q) where
+module _ (s : List ℕ) (p : ℕ) {e : Event} {q : ℕ} (found : read_event s p ≡ Ok (Some (e, q))) where
   pub found_place : (p + 4 ≤ q) × (q ≤ length s)
   found_place = let h = found_reads s p found in (omega (arith, h.next, length_record e), h.fits)
 

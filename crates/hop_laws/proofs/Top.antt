@@ -2,11 +2,11 @@
 use mathlib.Core.Path.{◌≡◌}
 use mathlib.Core.Logic.{◌≢◌, ◌↔◌}
 use mathlib.Core.Bool.{true}
+use Rattle.std.specs.Prelude.{Some, Ok}
 use mathlib.Core.List.{List, [], ◌∷◌, ◌++◌, map}
 use Prim.Native.Nat.{ℕ, ◌+◌, ◌*◌, ◌-◌, ◌≤◌, ◌<◌}
 use lib.ListN.{length, get_or, take, drop}
 use Rattle.hop_rule.specs.declared.Event.{Event}
-use Rattle.hop_rule.specs.declared.Reading.TheVariants.{Found}
 use Rattle.hop_rule.specs.State.{State}
 use Rattle.hop_rule.specs.Rule.{total, waiting_for, waiting_from, fresh}
 use Rattle.hop_rule.specs.Stored.{size, stored, nodes, read}
@@ -85,22 +85,22 @@ stored_same s t e = same.stored_same e
 -- ---- records
 
 -- Reading an event's record, wherever it stands, finds the event and the place behind it.
-pub read_written : (e : Event) (before after : List ℕ) → read_event (before ++ (event_record e ++ after)) (length before) ≡ Found e (length before + length (event_record e))
+pub read_written : (e : Event) (before after : List ℕ) → read_event (before ++ (event_record e ++ after)) (length before) ≡ Ok (Some (e, length before + length (event_record e)))
 read_written e before after = records.read_written e before after
 
 -- What reading finds in bytes is the record of the event that it names: an event has one record only.
-pub written_read : (s : List ℕ) (p : ℕ) (e : Event) (q : ℕ) → read_event s p ≡ Found e q → ((i : ℕ) → i < length s → get_or s i 0 < 256) → take (q - p) (drop p s) ≡ event_record e
+pub written_read : (s : List ℕ) (p : ℕ) (e : Event) (q : ℕ) → read_event s p ≡ Ok (Some (e, q)) → ((i : ℕ) → i < length s → get_or s i 0 < 256) → take (q - p) (drop p s) ≡ event_record e
 written_read s p e q found all-bytes = records.written_read s p found all-bytes
 
 -- A record that is found has four bytes at least, and ends within the bytes.
-pub found_place : (s : List ℕ) (p : ℕ) (e : Event) (q : ℕ) → read_event s p ≡ Found e q → (p + 4 ≤ q) × (q ≤ length s)
+pub found_place : (s : List ℕ) (p : ℕ) (e : Event) (q : ℕ) → read_event s p ≡ Ok (Some (e, q)) → (p + 4 ≤ q) × (q ≤ length s)
 found_place s p e q found = records.found_place s p found
 
 -- An event whose numbers are below 65,536 is written in bytes; and such are the numbers of an event that is read from bytes.
 pub event_bytes : (e : Event) → ((i : ℕ) → get_or (body_of e) i 0 < 65536) → (i : ℕ) → get_or (event_record e) i 0 < 256
 event_bytes e h = fits.event_bytes e h
 
-pub found_numbers : (s : List ℕ) (p : ℕ) (e : Event) (q : ℕ) → read_event s p ≡ Found e q → ((i : ℕ) → i < length s → get_or s i 0 < 256) → (i : ℕ) → get_or (body_of e) i 0 < 65536
+pub found_numbers : (s : List ℕ) (p : ℕ) (e : Event) (q : ℕ) → read_event s p ≡ Ok (Some (e, q)) → ((i : ℕ) → i < length s → get_or s i 0 < 256) → (i : ℕ) → get_or (body_of e) i 0 < 65536
 found_numbers s p e q found all-bytes = records.found_numbers s p found all-bytes
 
 -- A status record has 14 bytes, and in a sound state each of them is one: no field is reduced.

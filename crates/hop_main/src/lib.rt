@@ -10,6 +10,7 @@ use std::io;
 use std::io::Read;
 
 // The program on bytes: the text of a script over a state in a buffer of 61,966 bytes, which holds 27 nodes.
+#[tactic(auto, unfolding(hop_replay::specs::Replay::program))]
 pub fn program(script: &[u8], out: &mut [u8]) -> usize
     ensures { Wrote (text.program script.now) out.old 0 out.new result × (result ≤ 92072) }
 {
@@ -18,6 +19,7 @@ pub fn program(script: &[u8], out: &mut [u8]) -> usize
 }
 
 // Reads until `buf` is full or the input ends, and gives how many bytes it put at the start of `buf`.
+// A loop of its own: the library's `read_exact` fails where the input ends first, and `read_to_end` wants a `Vec`, which is on the heap.
 fn read_full<R: Read>(reader: &mut R, buf: &mut [u8]) -> io::Result<usize>
     ensures { IfOk result (λ n. n ≤ length buf.new) }
 {

@@ -3,8 +3,7 @@
 
 ghost use Rattle.std.specs.Prelude.{◌<◌};
 
-use hop_ask::{Answer, RouteAnswer};
-use hop_core::RunAnswer;
+use hop_rule::Refused;
 use std::io;
 
 // A number and a blank, or a line feed.
@@ -19,42 +18,42 @@ fn print_two(rt: &impl Print, x: u32, y: u32, ends: &str) -> io::Result<()> {
 }
 
 // A refusal shows as its number behind a minus sign.
-fn print_refusal(rt: &impl Print, c: u32, ends: &str) -> io::Result<()> {
+fn print_refusal(rt: &impl Print, r: Refused, ends: &str) -> io::Result<()> {
     print!(rt; "-")?;
-    print(rt, c, ends)
+    print(rt, u32::from(r), ends)
 }
 
-fn print_answer(rt: &impl Print, a: Answer, ends: &str) -> io::Result<()> {
+fn print_answer(rt: &impl Print, a: Result<u32, Refused>, ends: &str) -> io::Result<()> {
     match a {
-        Answer::Value(x) => print(rt, x, ends),
-        Answer::Refused(c) => print_refusal(rt, c, ends),
+        Ok(x) => print(rt, x, ends),
+        Err(r) => print_refusal(rt, r, ends),
     }
 }
 
 // The passes made and the entries delivered.
 fn print_run(rt: &impl Print, s: &mut [u8]) -> io::Result<()> {
     match hop_core::run(s, 255) {
-        RunAnswer::Made(passes, deliveries) => print_two(rt, passes, deliveries, "\n"),
-        RunAnswer::Refused(c) => print_refusal(rt, c, "\n"),
+        Ok(ran) => print_two(rt, ran.passes, ran.deliveries, "\n"),
+        Err(r) => print_refusal(rt, r, "\n"),
     }
 }
 
 // The hops and the neighbour to send through.
 fn print_route(rt: &impl Print, s: &[u8], u: usize, v: usize, ends: &str) -> io::Result<()> {
     match hop_ask::route(s, u, v) {
-        RouteAnswer::Way(distance, downstream) => print_two(rt, distance, downstream, ends),
-        RouteAnswer::Refused(c) => print_refusal(rt, c, ends),
+        Ok(way) => print_two(rt, u32::from(way.distance), u32::from(way.downstream), ends),
+        Err(r) => print_refusal(rt, r, ends),
     }
 }
 
 fn link_two(s: &mut [u8], a: usize, b: usize, c: usize) {
-    hop_core::up(s, a, b);
-    hop_core::up(s, a, c);
+    let _ = hop_core::up(s, a, b);
+    let _ = hop_core::up(s, a, c);
 }
 
 // 0-1, 0-2, 3-1, 3-2.
 fn link_square(s: &mut [u8]) {
-    hop_core::make(s, 4);
+    let _ = hop_core::make(s, 4);
     link_two(s, 0, 1, 2);
     link_two(s, 3, 1, 2);
 }
@@ -70,28 +69,22 @@ fn square(rt: &impl Print, s: &mut [u8]) -> io::Result<()> {
 fn link_above(s: &mut [u8], a: usize)
     requires { a < 40 }
 {
-    let mut b = a + 1;
-    while b < 40 {
-        hop_core::up(s, a, b);
-        b += 1;
+    for b in a + 1..40 {
+        let _ = hop_core::up(s, a, b);
     }
 }
 
 // All 780 links of 40.
 fn link_all(s: &mut [u8]) {
-    let mut a = 0;
-    while a < 40 {
+    for a in 0..40 {
         link_above(s, a);
-        a += 1;
     }
 }
 
 // The 39 links of a line.
 fn link_line(s: &mut [u8]) {
-    let mut a = 0;
-    while a < 39 {
-        hop_core::up(s, a, a + 1);
-        a += 1;
+    for a in 0..39 {
+        let _ = hop_core::up(s, a, a + 1);
     }
 }
 
@@ -99,30 +92,22 @@ fn link_line(s: &mut [u8]) {
 fn print_status(rt: &impl Print, s: &[u8], u: usize) -> io::Result<()> {
     let mut out = [0u8; 14];
     print_answer(rt, hop_ask::status(s, u, &mut out), " ")?;
-    let mut i = 0;
-    while i < 13 {
-        print(rt, wide(out[i]), " ")?;
-        i += 1;
+    for x in &out[..13] {
+        print(rt, u32::from(*x), " ")?;
     }
-    print(rt, wide(out[13]), "\n")
-}
-
-fn wide(x: u8) -> u32 {
-    x as u32
+    print(rt, u32::from(out[13]), "\n")
 }
 
 fn print_statuses(rt: &impl Print, s: &[u8]) -> io::Result<()> {
-    let mut u = 0;
-    while u < 40 {
+    for u in 0..40 {
         print_status(rt, s, u)?;
-        u += 1;
     }
     Ok(())
 }
 
 // Nothing is delivered: 62,400 wait, 1,560 for each node.
 fn full(rt: &impl Print, s: &mut [u8]) -> io::Result<()> {
-    hop_core::make(s, 40);
+    let _ = hop_core::make(s, 40);
     link_all(s);
     print_answer(rt, hop_ask::total_queued(s), "\n")?;
     print_statuses(rt, s)
@@ -130,7 +115,7 @@ fn full(rt: &impl Print, s: &mut [u8]) -> io::Result<()> {
 
 // A line of 40 to rest: its ends are 39 hops apart.
 fn line(rt: &impl Print, s: &mut [u8]) -> io::Result<()> {
-    hop_core::make(s, 40);
+    let _ = hop_core::make(s, 40);
     link_line(s);
     print_run(rt, s)?;
     print_route(rt, s, 0, 39, " ")?;

@@ -1,1 +1,2 @@
+pub mod Moved
 pub mod Waiting

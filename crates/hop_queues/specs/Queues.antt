@@ -1,6 +1,6 @@
 -- What the code does to the bytes of one queue. Every definition is total: where bytes are not sound it does something, which no public contract speaks of.
 -- n comes first, then the indices, and the bytes last, so that a definition without its last two arguments is the body of a loop. Used by the code's own definitions; a buyer needs none of it.
-use Rattle.std.specs.Prelude.{◌&&◌, List, ℕ, ◌+◌, min, eqb, ltb, if◌then◌else◌}
+use Rattle.std.specs.Prelude.{◌≡◌, ◌&&◌, List, ℕ, Option, MatchOption, ◌+◌, ◌<◌, min, eqb, ltb, if◌then◌else◌}
 use Rattle.hop_rule.specs.declared.Table.{Table}
 use Rattle.hop_rule.specs.declared.Table.TheVariants.{Distances, Lengths, Destinations, Values}
 use Rattle.hop_rule.specs.Words.{loop, first}
@@ -17,6 +17,10 @@ first_at n w u v m s = first m (λ p. eqb (get3 n Destinations w u p s) v)
 -- A place at which v waits, or m: place v, where link up puts it, or else the first.
 unfoldable pub waits_at : ℕ → ℕ → ℕ → ℕ → ℕ → List ℕ → ℕ
 waits_at n w u v m s = if ltb v m && eqb (get3 n Destinations w u v s) v then v else first_at n w u v m s
+
+-- The answer of a search: a place below m, or m where there is none.
+abbrev pub IsPlace : Option ℕ → ℕ → ℕ → Type 0
+IsPlace r m place = MatchOption r (place ≡ m) (λ p. (p < m) × (place ≡ p))
 
 -- The entry (v, d) joins the tail, which is place p.
 unfoldable pub join : ℕ → ℕ → ℕ → ℕ → ℕ → ℕ → List ℕ → List ℕ

@@ -1,4 +1,5 @@
 // One queue of a stored state: sending into it, taking its head, filling and emptying it.
+// What `as` narrows here is proved to fit; `try_from` would add an error that cannot be.
 #![tactic(auto)]
 
 ghost use Rattle.std.specs.Prelude.{◌≡◌, ◌+◌, ◌*◌, ◌<◌, ◌≤◌};
@@ -7,56 +8,53 @@ ghost use Rattle.hop_rule.specs.declared.Table.TheVariants.{Destinations};
 ghost use Rattle.hop_rows.specs.Rows.{row, none_is};
 ghost use Rattle.hop_queues.specs.Queues as queue;
 
-use hop_cells::{fill, get2, get3, least, put2, put3};
-use hop_rows::{none_is, row3};
+use hop_cells::{Stored, fill, fill_cells, put2, put3, triple};
+use hop_rows::row3;
 use hop_rule::Table;
 
 // The entries that the queue from w to u holds.
-pub fn held(s: &[u8], n: usize, w: usize, u: usize) -> usize
-    requires { Room n s.now × (w < n) × (u < n) }
-    ensures { (result ≡ queue.held n w u s.now) × (result ≤ n) }
+pub fn held(s: Stored, w: usize, u: usize) -> usize
+    requires { (w < s.n) × (u < s.n) }
+    ensures { (result ≡ queue.held s.entry.n w u s.entry.bytes.now) × (result ≤ s.entry.n) }
 {
-    least(get2(s, n, Table::Lengths, w, u), n)
+    s.get2(Table::Lengths, w, u).min(s.n)
 }
 
-// The first of the places below m at which v waits, or m.
-fn first_at(s: &[u8], n: usize, w: usize, u: usize, v: usize, m: usize) -> usize
-    requires { Room n s.now × (w < n) × (u < n) × (m ≤ n) }
-    ensures { result ≡ queue.first_at n w u v m s.now }
+// The first of the places below m at which v waits.
+fn first_at(s: Stored, w: usize, u: usize, v: usize, m: usize) -> Option<usize>
+    requires { (w < s.n) × (u < s.n) × (m ≤ s.n) }
+    ensures { queue.IsPlace result m (queue.first_at s.entry.n w u v m s.entry.bytes.now) }
 {
-    for p in 0..m {
-        if get3(s, n, Table::Destinations, w, u, p) == v {
-            return p;
-        }
-    }
-    m
+    (0..m).find(|p| s.get3(Table::Destinations, w, u, *p) == v)
 }
 
 // Is v at none of the places below m? Quicker to find out than where it is.
-fn waits_nowhere(s: &[u8], n: usize, w: usize, u: usize, v: usize, m: usize) -> bool
-    requires { Room n s.now × (w < n) × (u < n) × (v < n) × (m ≤ n) }
-    ensures { result ≡ none_is s.now (row n Destinations (w * n + u)) m v }
+fn waits_nowhere(s: Stored, w: usize, u: usize, v: usize, m: usize) -> bool
+    requires { (w < s.n) × (u < s.n) × (v < s.n) × (m ≤ s.n) }
+    ensures { result ≡ none_is s.entry.bytes.now (row s.entry.n Destinations (w * s.entry.n + u)) m v }
 {
-    none_is(s, row3(n, Table::Destinations, w, u), m, v as u8)
+    !row3(s, Table::Destinations, w, u)[..m].contains(&(v as u8))
 }
 
-// A place at which v waits, or m. Link up puts v at place v, so that one is looked at first.
-fn waits_at(s: &[u8], n: usize, w: usize, u: usize, v: usize, m: usize) -> usize
-    requires { Room n s.now × (w < n) × (u < n) × (v < n) × (m ≤ n) }
-    ensures { result ≡ queue.waits_at n w u v m s.now }
+// A place below m at which v waits. Link up puts v at place v, so that one is looked at first.
+#[tactic(auto, unfolding(crate::specs::Queues::waits_at))]
+fn waits_at(s: Stored, w: usize, u: usize, v: usize, m: usize) -> Option<usize>
+    requires { (w < s.n) × (u < s.n) × (v < s.n) × (m ≤ s.n) }
+    ensures { queue.IsPlace result m (queue.waits_at s.entry.n w u v m s.entry.bytes.now) }
 {
     if v < m {
-        if get3(s, n, Table::Destinations, w, u, v) == v {
-            return v;
+        if s.get3(Table::Destinations, w, u, v) == v {
+            return Some(v);
         }
     }
-    if waits_nowhere(s, n, w, u, v, m) {
-        return m;
+    if waits_nowhere(s, w, u, v, m) {
+        return None;
     }
-    first_at(s, n, w, u, v, m)
+    first_at(s, w, u, v, m)
 }
 
 // The entry (v, d) joins the tail, which is place p.
+#[tactic(auto, unfolding(crate::specs::Queues::join))]
 fn join(s: &mut [u8], n: usize, w: usize, u: usize, v: usize, d: u8, p: usize)
     requires { Room n s.old × (w < n) × (u < n) × (v < n) × (p < n) }
     ensures { s.new ≡ queue.join n w u v d p s.old }
@@ -67,13 +65,14 @@ fn join(s: &mut [u8], n: usize, w: usize, u: usize, v: usize, d: u8, p: usize)
 }
 
 // The value is replaced where v waits, and otherwise the entry joins the tail.
+#[tactic(auto, unfolding(crate::specs::Queues::send))]
 pub fn send(s: &mut [u8], n: usize, w: usize, u: usize, v: usize, d: u8)
     requires { Room n s.old × (w < n) × (u < n) × (v < n) }
     ensures { s.new ≡ queue.send n w u v d s.old }
 {
-    let m = held(s, n, w, u);
-    let p = waits_at(s, n, w, u, v, m);
-    if p < m {
+    let state = Stored { bytes: s, n };
+    let m = held(state, w, u);
+    if let Some(p) = waits_at(state, w, u, v, m) {
         put3(s, n, Table::Values, w, u, p, d);
     } else if m < n {
         join(s, n, w, u, v, d, m);
@@ -81,29 +80,17 @@ pub fn send(s: &mut [u8], n: usize, w: usize, u: usize, v: usize, d: u8)
 }
 
 // Place p of a row takes what stands k places behind it.
+#[tactic(auto, unfolding(crate::specs::Queues::shift))]
 fn shift(s: &mut [u8], n: usize, t: Table, w: usize, u: usize, k: usize, p: usize)
     requires { Room n s.old × (w < n) × (u < n) × (p + k < n) × (cells n t ≡ n * n * n) }
     ensures { s.new ≡ queue.shift n t w u k p s.old }
 {
-    let x = get3(s, n, t, w, u, p + k);
+    let x = Stored { bytes: s, n }.get3(t, w, u, p + k);
     put3(s, n, t, w, u, p, x as u8);
 }
 
-// The k places of a row behind the first m become 0. Most often it is one place, and a loop over one is slow.
-fn clear(s: &mut [u8], n: usize, t: Table, w: usize, u: usize, m: usize, k: usize)
-    requires { Room n s.old × (w < n) × (u < n) × (m + k ≤ n) × (cells n t ≡ n * n * n) }
-    ensures { s.new ≡ queue.clear n t w u m k s.old }
-{
-    if k == 1 {
-        put3(s, n, t, w, u, m, 0);
-        return;
-    }
-    for p in 0..k {
-        put3(s, n, t, w, u, m + p, 0);
-    }
-}
-
-// The first k entries of a row leave, and the m behind them move up.
+// The first k entries of a row leave, the m behind them move up, and the places that fall free become 0.
+// A loop: with `copy_within` a pass over full queues took 1.05 of its time at 10 nodes.
 fn move_up(s: &mut [u8], n: usize, t: Table, w: usize, u: usize, k: usize, m: usize)
     requires { Room n s.old × (w < n) × (u < n) × (m + k ≤ n) × (cells n t ≡ n * n * n) }
     ensures { s.new ≡ queue.move_up n t w u k m s.old }
@@ -111,10 +98,11 @@ fn move_up(s: &mut [u8], n: usize, t: Table, w: usize, u: usize, k: usize, m: us
     for p in 0..m {
         shift(s, n, t, w, u, k, p);
     }
-    clear(s, n, t, w, u, m, k);
+    fill_cells(s, n, t, triple(n, w, u, 0) + m, k, 0);
 }
 
 // The first k entries of the queue leave, and m stay.
+#[tactic(auto, unfolding(crate::specs::Queues::take_first))]
 pub fn take_first(s: &mut [u8], n: usize, w: usize, u: usize, k: usize, m: usize)
     requires { Room n s.old × (w < n) × (u < n) × (m + k ≤ n) }
     ensures { s.new ≡ queue.take_first n w u k m s.old }
@@ -125,16 +113,18 @@ pub fn take_first(s: &mut [u8], n: usize, w: usize, u: usize, k: usize, m: usize
 }
 
 // Destination v stands at place v, with the sender's distance.
+#[tactic(auto, unfolding(crate::specs::Queues::offer))]
 fn offer(s: &mut [u8], n: usize, w: usize, u: usize, v: usize)
     requires { Room n s.old × (w < n) × (u < n) × (v < n) }
     ensures { s.new ≡ queue.offer n w u v s.old }
 {
-    let d = get2(s, n, Table::Distances, w, v);
+    let d = Stored { bytes: s, n }.get2(Table::Distances, w, v);
     put3(s, n, Table::Destinations, w, u, v, v as u8);
     put3(s, n, Table::Values, w, u, v, d as u8);
 }
 
 // All n destinations wait, ascending, with the sender's distances.
+#[tactic(auto, unfolding(crate::specs::Queues::offer_all), using(hop_laws::proofs::Words::loop_none, hop_laws::proofs::Words::loop_turn, hop_cells::proofs::Loops::loop_end))]
 pub fn offer_all(s: &mut [u8], n: usize, w: usize, u: usize)
     requires { Room n s.old × (w < n) × (u < n) }
     ensures { s.new ≡ queue.offer_all n w u s.old }
@@ -146,6 +136,7 @@ pub fn offer_all(s: &mut [u8], n: usize, w: usize, u: usize)
 }
 
 // Nothing waits.
+#[tactic(auto, unfolding(crate::specs::Queues::empty))]
 pub fn empty(s: &mut [u8], n: usize, w: usize, u: usize)
     requires { Room n s.old × (w < n) × (u < n) }
     ensures { s.new ≡ queue.empty n w u s.old }

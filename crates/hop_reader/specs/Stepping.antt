@@ -1,7 +1,6 @@
 -- 01, 'Records': records read one after another. What is read at a place, and the place to read at next. Uses hop_rule's Records.
 use Rattle.std.specs.Prelude.{◌≡◌, List, ℕ}
-use Rattle.hop_rule.specs.declared.Reading.{Reading}
-use Rattle.hop_rule.specs.Records.{read_event, place_after}
+use Rattle.hop_rule.specs.Records.{Reading, read_event, place_after}
 use Rattle.hop_reader.specs.declared.Step.{Step}
 
 -- The contracts of a reader, by what it keeps: what it refers to, and its place. Made at a place it keeps both; reading the bytes that it refers to leaves what it refers to, and moves the place.

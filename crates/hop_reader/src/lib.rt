@@ -2,38 +2,16 @@
 #![tactic(auto)]
 
 ghost use Rattle.std.specs.Prelude.{◌≡◌};
-ghost use Rattle.hop_rule.specs.Records.{place_after};
 ghost use Rattle.hop_reader.specs.Stepping.{MadeAt, ReadsNext, step_at};
 
 use hop_records::read_event;
-use hop_rule::Reading;
+use hop_rule::{Event, Refused};
 
 // What was read at a place, and the place to read at next.
 #[derive(Drop)]
 pub struct Step {
-    pub reading: Reading,
+    pub reading: Result<Option<(Event, usize)>, Refused>,
     pub next: usize,
-}
-
-// Past the record that was found. A refusal or the end leaves the place as it was.
-fn place_after(reading: Reading, at: usize) -> usize
-    ensures { result ≡ place_after reading at }
-{
-    match reading {
-        Reading::Found(_, next) => next,
-        Reading::End => at,
-        Reading::Refused(_) => at,
-    }
-}
-
-fn step_at(s: &[u8], at: usize) -> Step
-    ensures step { result ≡ step_at s.now at }
-{
-    let reading = read_event(s, at);
-    Step {
-        reading,
-        next: place_after(reading, at),
-    }
 }
 
 // The lent bytes together with the place of the next record.
@@ -43,20 +21,23 @@ pub struct Reader<'a> {
     pub at: usize,
 }
 
-// A reader at a place: at 0 the first record is read next.
+// A reader at a place: at 0 the first record is read next. A function, and read_next too: the manual and hop_c/specs/Determined name them so.
 pub fn reader_at<'a>(src: &'a [u8], at: usize) -> Reader<'a>
     ensures { MadeAt src.entry at result.src result.at }
 {
     Reader { src, at }
 }
 
-// Reads the record at the reader's place, and moves the place past it.
-pub fn read_next<'s, 'a>(r: &'s mut Reader<'a>) -> Reading
+// Reads the record at the reader's place, and moves the place past it. The end or a refusal leaves the place as it was.
+#[tactic(auto, unfolding(hop_rule::specs::Records::place_after))]
+pub fn read_next<'s, 'a>(r: &'s mut Reader<'a>) -> Result<Option<(Event, usize)>, Refused>
     ensures { ReadsNext r.old.src.now r.old.src r.old.at result r.new.src r.new.at }
 {
-    let step = step_at(r.src, r.at);
-    r.at = step.next;
-    step.reading
+    let found = read_event(r.src, r.at)?;
+    if let Some((_, next)) = found {
+        r.at = next;
+    }
+    Ok(found)
 }
 
 // One record through a reader, for callers that keep bytes and place themselves.

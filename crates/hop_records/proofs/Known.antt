@@ -1,71 +1,47 @@
--- What a kind tells: whether it is known, its length, and the record of its event, with as many numbers as the length says. Assumes nothing.
-use Rattle.std.specs.Prelude.{if◌then◌else◌}
+-- The record of the event that a kind and two numbers say; and an event's own kind and numbers say the event. Assumes nothing.
 use mathlib.Core.Path.{◌≡◌, refl, ap, ◌∙◌}
 use mathlib.Core.Logic.{◌≢◌}
-use mathlib.Core.Bool.{Bool, true, false}
+use mathlib.Core.Bool.{true}
 use mathlib.Core.List.{List, [], ◌∷◌}
-use Prim.Native.Nat.{ℕ, ◌<◌}
+use Prim.Native.Nat.{ℕ, ◌≤◌}
 use native.Mathlib.Omega.{arith}
-use lib.Dec.{eqb}
+use Rattle.std.proofs.lemmas.Bool.Decides.{nat_tests}
 use Rattle.hop_rule.specs.declared.Event.{Event}
 use Rattle.hop_rule.specs.declared.Event.TheVariants.{Make, Up, Down, Deliver, Pass, Notice}
-use Rattle.hop_rule.specs.Records.{record_of, kind_of, body_of, event_record, known, length_of, event_of}
-use Rattle.hop_rule.specs.Calls.{write_event, refused, outcome}
-use Rattle.hop_laws.proofs.Records.{kind_small, known_kind, length_event}
+use Rattle.hop_rule.specs.Records.{record_of, kind_of, body_of, event_record, known, event_of}
+use Rattle.hop_rule.specs.Calls.{write_event, outcome}
+use Rattle.hop_laws.proofs.Records.{known_kind}
 use Rattle.hop_records.specs.declared.Numbers.{Numbers}
-use Rattle.hop_records.specs.Writing.{tried, numbers_of, known_length, wrote_event}
+use Rattle.hop_records.specs.Writing.{tried, numbers_of, wrote_event}
 use Rattle.hop_records.proofs.Stores.{tried_outcome}
 
--- The numbers of a kind, by its length.
-abbrev pub numbers : ℕ → ℕ → ℕ → List ℕ
-numbers first second size = if eqb size 6 then first ∷ second ∷ [] else if eqb size 4 then first ∷ [] else []
+known_pair : (kind : ℕ) → 16 ≤ kind → kind ≤ 20 → kind ≢ 19 → known kind ≡ true
+unfolding known
+known_pair kind low high pass = grind (arith, nat_tests)
 
-module _ (kind : ℕ) {size : ℕ} (told : size ≡ known_length kind) where
-  pub length_known : known kind ≡ true → size ≡ length_of kind
-  unfolding known_length
-  length_known k = told ∙ rw k
+module _ (first second : ℕ) (out : List ℕ) where
+  pub make_written : tried (record_of 15 (first ∷ [])) out ≡ wrote_event 15 first second out
+  unfolding wrote_event known event_of event_record kind_of body_of
+  make_written = tried_outcome (Make first) out
 
-  unknown_kind : size ≡ 0 → known kind ≡ false
-  unknown_kind z = go (known kind) refl
+  pub pass_written : tried (record_of 19 []) out ≡ wrote_event 19 first second out
+  unfolding wrote_event known event_of event_record kind_of body_of
+  pass_written = tried_outcome Pass out
+
+  pub pair_written : (kind : ℕ) → 16 ≤ kind → kind ≤ 20 → kind ≢ 19 → tried (record_of kind (first ∷ second ∷ [])) out ≡ wrote_event kind first second out
+  unfolding wrote_event known event_of event_record kind_of body_of
+  pair_written kind low high pass =
+      let (e, same) = known_kind kind (known_pair kind low high pass) in
+      rw (← same) (of e (omega arith) (omega arith))
     where
-      go : (b : Bool) → known kind ≡ b → known kind ≡ false
-      go true k = let (e, same) = known_kind kind k in absurd (omega (arith, length_event e, ap length_of same, length_known k))
-      go false k = k
+      of : (e : Event) → kind_of e ≢ 15 → kind_of e ≢ 19 → tried (record_of (kind_of e) (first ∷ second ∷ [])) out ≡ wrote_event (kind_of e) first second out
+      of (Make n) m p = absurd (m refl)
+      of (Up a b) m p = tried_outcome (Up first second) out
+      of (Down a b) m p = tried_outcome (Down first second) out
+      of (Deliver w u) m p = tried_outcome (Deliver first second) out
+      of Pass m p = absurd (p refl)
+      of (Notice a b) m p = tried_outcome (Notice first second) out
 
-  length_of_known : size ≢ 0 → (known kind ≡ true) × (size ≡ length_of kind)
-  unfolding known_length
-  length_of_known some = go (known kind) refl
-    where
-      go : (b : Bool) → known kind ≡ b → (known kind ≡ true) × (size ≡ length_of kind)
-      go true k = (k, length_known k)
-      go false k = absurd (some (told ∙ rw k))
-
-  pub kind_fits : size ≢ 0 → kind < 65536
-  kind_fits some = let (e, same) = known_kind kind (length_of_known some).0 in omega (arith, kind_small e)
-
-  -- ---- writing
-
-  module _ (first second : ℕ) (out : List ℕ) where
-    pub unknown_refused : size ≡ 0 → refused 10 [] out ≡ wrote_event kind first second out
-    unfolding wrote_event
-    unknown_refused z = rw (unknown_kind z)
-
-    of_event : (e : Event) → tried (record_of (kind_of e) (numbers first second (length_of (kind_of e)))) out ≡ wrote_event (kind_of e) first second out
-    unfolding wrote_event known length_of event_of event_record kind_of body_of
-    of_event (Make n) = tried_outcome {x = Make first} out refl
-    of_event (Up a b) = tried_outcome {x = Up first second} out refl
-    of_event (Down a b) = tried_outcome {x = Down first second} out refl
-    of_event (Deliver w u) = tried_outcome {x = Deliver first second} out refl
-    of_event Pass = tried_outcome {x = Pass} out refl
-    of_event (Notice a b) = tried_outcome {x = Notice first second} out refl
-
-    pub known_written : size ≢ 0 → {xs : List ℕ} → numbers first second size ≡ xs → tried (record_of kind xs) out ≡ wrote_event kind first second out
-    known_written some e =
-        let (k, long) = length_of_known some in
-        let (event, same) = known_kind kind k in
-        rw (← e, long, ← same) (of_event event)
-
--- An event's own kind and numbers say the event.
 pub own_written : (e : Event) (out : List ℕ) {p : Numbers} → p ≡ numbers_of e → wrote_event p.kind p.first p.second out ≡ outcome (write_event e) [] out
 unfolding wrote_event known event_of kind_of body_of
 own_written e out h = ap (λ (p : Numbers). wrote_event p.kind p.first p.second out) h ∙ elim e as (λ k. wrote_event (numbers_of k).kind (numbers_of k).first (numbers_of k).second out ≡ outcome (write_event k) [] out) [ Make n ↦ refl | Up a b ↦ refl | Down a b ↦ refl | Deliver w u ↦ refl | Pass ↦ refl | Notice a b ↦ refl ]

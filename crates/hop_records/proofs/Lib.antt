@@ -1,4 +1,3 @@
-mod Heads
 mod Known
-pub mod Stores
+mod Stores
 pub mod Answers

@@ -1,37 +1,47 @@
--- A record that is stored byte by byte from the start of an output is the record written; and what a function that tries to write one gives. Assumes nothing.
+-- Words that are stored from the start of an output are the record written; and what a function that tries to write one gives. Assumes nothing.
 use mathlib.Core.Path.{◌≡◌, refl, ◌∙◌}
 use mathlib.Core.Bool.{Bool, true, false, cond}
-use mathlib.Core.List.{List, []}
-use Prim.Native.Nat.{ℕ, ◌≤◌, ◌<◌}
+use mathlib.Core.List.{List, [], ◌∷◌, ◌++◌}
+use Prim.Native.Nat.{ℕ, suc, ◌+◌, ◌*◌, ◌≤◌}
 use native.Mathlib.Nat.{zero-add}
 use native.Mathlib.Omega.{arith}
 use lib.Dec.{eqb, ltb}
-use lib.ListN.{length}
+use lib.ListN.{length, set}
 use lib.Seq.{sets, sets-eq}
-use borrow.Author.Tests.{lt-ltb, le-ltb}
 use Rattle.hop_rule.specs.declared.Event.{Event}
-use Rattle.hop_rule.specs.Records.{event_record, written}
+use Rattle.hop_rule.specs.Records.{words, record_of, event_record, written}
 use Rattle.hop_rule.specs.Calls.{write_event, Outcome, judge, refusals, refused, recorded, done, outcome}
-use Rattle.hop_records.specs.declared.Written.TheVariants.{Bytes, Refused}
-use Rattle.hop_records.specs.Writing.{wrote, tried}
+use Rattle.hop_laws.proofs.Records.{length_words}
+use Rattle.hop_records.specs.Writing.{tried}
 
-module _ (r out : List ℕ) where
-  pub sets_written : length r ≤ length out → sets out 0 r ≡ written r out
-  unfolding written
-  sets_written h = sets-eq r out 0 (omega arith) ∙ rw zero-add
+words_append : (xs ys : List ℕ) → words (xs ++ ys) ≡ words xs ++ words ys
+unfolding words
+words_append [] ys = refl
+words_append (x ∷ xs) ys = rw (words_append xs ys)
 
-  pub refused_tried : length out < length r → wrote (Refused 2) out ≡ tried r out
-  unfolding tried
-  refused_tried h = rw (lt-ltb (length out) (length r) h)
+sets_append : (vs ws l : List ℕ) (i j : ℕ) → j ≡ i + length vs → sets (sets l i vs) j ws ≡ sets l i (vs ++ ws)
+sets_append [] ws l i j e = let z : j ≡ i = omega arith in rw z
+sets_append (a ∷ vs) ws l i j e = sets_append vs ws (set l i a) (suc i) j (omega arith)
 
-  pub stored_tried : length r ≤ length out → {after : List ℕ} → after ≡ sets out 0 r → wrote (Bytes (length r)) after ≡ tried r out
-  unfolding tried
-  stored_tried h e = rw (le-ltb (length out) (length r) h, e, sets_written h)
+-- One word more, behind those that are stored.
+pub word_more : (xs out : List ℕ) (x at : ℕ) → at ≡ 2 * length xs → sets (sets out 0 (words xs)) at (words (x ∷ [])) ≡ sets out 0 (words (xs ++ x ∷ []))
+word_more xs out x at e = sets_append (words xs) (words (x ∷ [])) out 0 at (omega (arith, length_words xs)) ∙ rw (words_append xs (x ∷ []))
+
+module _ (kind : ℕ) (body : List ℕ) where
+  pub length_record : length (record_of kind body) ≡ 4 + 2 * length body
+  unfolding record_of
+  length_record = omega (arith, length_words ((2 + 2 * length body) ∷ kind ∷ body))
+
+  pub stored_record : (out : List ℕ) (n : ℕ) → n ≡ length body → 4 + 2 * n ≤ length out → sets out 0 (words ((2 + 2 * n) ∷ kind ∷ body)) ≡ written (record_of kind body) out
+  unfolding written record_of
+  stored_record out n e h =
+      let long = length_words ((2 + 2 * length body) ∷ kind ∷ body) in
+      rw (e, sets-eq (words ((2 + 2 * length body) ∷ kind ∷ body)) out 0 (omega arith), zero-add)
 
 -- To try an event's record is to write the event.
-pub tried_outcome : {e x : Event} (out : List ℕ) → e ≡ x → tried (event_record x) out ≡ outcome (write_event e) [] out
+pub tried_outcome : (e : Event) (out : List ℕ) → tried (event_record e) out ≡ outcome (write_event e) [] out
 unfolding tried outcome refusals judge done
-tried_outcome {x = x} out p = rw p (go (ltb (length out) (length (event_record x))) (recorded (event_record x) [] out))
+tried_outcome e out = go (ltb (length out) (length (event_record e))) (recorded (event_record e) [] out)
   where
     go : (short : Bool) (d : Outcome) → cond short (refused 2 [] out) d ≡ cond (eqb (cond short 2 0) 0) d (refused (cond short 2 0) [] out)
     go true d = refl

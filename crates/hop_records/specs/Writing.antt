@@ -1,27 +1,23 @@
--- 01, 'Records': what the enum `Written` says in the words of 'Refusal numbers', an event in plain numbers, and what writing a record gives. Uses hop_rule's Records and Calls.
-use Rattle.std.specs.Prelude.{◌≡◌, List, [], ◌∷◌, ℕ, ltb, length, get_or, if◌then◌else◌}
+-- 01, 'Records': an event in plain numbers, and what writing a record gives, the bytes written or a refusal, in the words of 'Refusal numbers'. Uses hop_rule's Refused, Records and Calls.
+use Rattle.std.specs.Prelude.{◌≡◌, Result, Ok, Err, List, [], ◌∷◌, ℕ, ltb, length, get_or, if◌then◌else◌}
 use Rattle.hop_rule.specs.declared.Event.{Event}
-use Rattle.hop_rule.specs.Records.{kind_of, body_of, known, length_of, event_of}
+use Rattle.hop_rule.specs.declared.Refused.{Refused}
+use Rattle.hop_rule.specs.Refused.{code}
+use Rattle.hop_rule.specs.Records.{kind_of, body_of, known, event_of}
 use Rattle.hop_rule.specs.Calls.{write_event, Outcome, refused, recorded, outcome}
 use Rattle.hop_records.specs.declared.Numbers.{Numbers}
-use Rattle.hop_records.specs.declared.Written.{Written}
-use Rattle.hop_records.specs.declared.Written.TheVariants.{Bytes, Refused}
 
--- The bytes written, or the number of the refusal.
-abbrev pub number : Written → ℕ
-number (Bytes k) = 0
-number (Refused c) = c
-
-abbrev pub answers : Written → List ℕ
-answers (Bytes k) = k ∷ []
-answers (Refused c) = []
+-- The bytes written; none at a refusal.
+abbrev pub answers : Result ℕ Refused → List ℕ
+answers (Ok k) = k ∷ []
+answers (Err r) = []
 
 -- The outcome of a call that writes to an output alone, with the output's bytes as the call leaves them.
-abbrev pub wrote : Written → List ℕ → Outcome
-wrote w out = record { number = number w; answers = answers w; bytes = []; output = out }
+abbrev pub wrote : Result ℕ Refused → List ℕ → Outcome
+wrote w out = record { number = code w; answers = answers w; bytes = []; output = out }
 
 -- The contract of a writer: the answer and the bytes left in the output make the outcome.
-abbrev pub Writes : Outcome → Written → List ℕ → Type 0
+abbrev pub Writes : Outcome → Result ℕ Refused → List ℕ → Type 0
 Writes o w left = wrote w left ≡ o
 
 -- A record is written where there is room for it, and refused with 2 where there is none.
@@ -31,10 +27,6 @@ tried r out = if ltb (length out) (length r) then refused 2 [] out else recorded
 -- An event's kind and its two numbers; a number that the kind does not have is 0.
 abbrev pub numbers_of : Event → Numbers
 numbers_of e = record { kind = kind_of e; first = get_or (body_of e) 0 0; second = get_or (body_of e) 1 0 }
-
--- The length of a kind's record, 0 for a kind that is not known.
-unfoldable pub known_length : ℕ → ℕ
-known_length kind = if known kind then length_of kind else 0
 
 -- Writing the event that a kind and two numbers say. An unknown kind is 10.
 unfoldable pub wrote_event : ℕ → ℕ → ℕ → List ℕ → Outcome

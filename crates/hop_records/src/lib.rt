@@ -1,20 +1,13 @@
 // Event and status records as bytes, written and read. The one place in the code that knows an event's kind, length and numbers.
 #![tactic(auto)]
 
-ghost use Rattle.std.specs.Prelude.{◌≡◌, true, [], ◌∷◌, ◌+◌, ◌<◌, ◌≤◌, length};
+ghost use Rattle.std.specs.Prelude.{◌≡◌, true, [], ◌∷◌, ◌+◌, ◌*◌, ◌<◌, ◌≤◌, length};
 ghost use Rattle.std.proofs.lemmas.List.Edits.{sets};
 ghost use Rattle.hop_rule.specs.Records.{words, word_at, record_of, known, length_of, event_at, read_event, written};
 ghost use Rattle.hop_rule.specs.Calls.{write_event, outcome};
-ghost use Rattle.hop_records.specs.Writing.{Writes, tried, numbers_of, wrote_event, known_length};
+ghost use Rattle.hop_records.specs.Writing.{Writes, tried, numbers_of, wrote_event};
 
-use hop_rule::{Event, Reading};
-
-// What writing a record gives: the bytes written, or the number of the refusal.
-#[derive(Drop)]
-pub enum Written {
-    Bytes(u32),
-    Refused(u32),
-}
+use hop_rule::{Event, Refused};
 
 // An event in plain numbers: its kind and its two numbers, 0 where the kind has none.
 #[derive(Drop)]
@@ -24,118 +17,87 @@ pub struct Numbers {
     pub second: u16,
 }
 
-fn of_kind(kind: u32, first: u16, second: u16) -> Numbers
-    ensures { result ≡ record { kind = kind; first = first; second = second } }
-{
-    Numbers {
-        kind,
-        first,
-        second,
+impl From<Event> for Numbers {
+    ghost from_gives = { λ e p. p ≡ numbers_of e };
+
+    #[tactic(auto, unfolding(hop_rule::specs::Records::kind_of, hop_rule::specs::Records::body_of))]
+    fn from(e: Event) -> Numbers {
+        let (kind, first, second) = match e {
+            Event::Make(n) => (15, n, 0),
+            Event::Up(a, b) => (16, a, b),
+            Event::Down(a, b) => (17, a, b),
+            Event::Deliver(w, u) => (18, w, u),
+            Event::Pass => (19, 0, 0),
+            Event::Notice(a, b) => (20, a, b),
+        };
+        Numbers {
+            kind,
+            first,
+            second,
+        }
     }
 }
 
-pub fn numbers_of(e: Event) -> Numbers
-    ensures { result ≡ numbers_of e }
-{
-    match e {
-        Event::Make(n) => of_kind(15, n, 0),
-        Event::Up(a, b) => of_kind(16, a, b),
-        Event::Down(a, b) => of_kind(17, a, b),
-        Event::Deliver(w, u) => of_kind(18, w, u),
-        Event::Pass => of_kind(19, 0, 0),
-        Event::Notice(a, b) => of_kind(20, a, b),
-    }
-}
-
-// The length of a kind's record; 0 for a kind that is not known.
-fn length_of(kind: u32) -> u16
-    ensures { result ≡ known_length kind }
-{
-    match kind {
-        15 => 4,
-        16 => 6,
-        17 => 6,
-        18 => 6,
-        19 => 2,
-        20 => 6,
-        _ => 0,
-    }
-}
-
-// One little-endian 16-bit number at a place.
+// One little-endian 16-bit number at a place. Byte by byte: with copy_from_slice writing a record takes an eighth longer.
+#[tactic(auto, unfolding(hop_rule::specs::Records::words))]
 fn write_word(out: &mut [u8], at: usize, x: u16)
     requires { at + 2 ≤ length out.old }
     ensures { out.new ≡ sets out.old at (words (x ∷ [])) }
 {
-    out[at] = (x % 256) as u8;
-    out[at + 1] = (x / 256) as u8;
+    let [low, high] = x.to_le_bytes();
+    out[at] = low;
+    out[at + 1] = high;
 }
 
-// Two of them, one behind the other.
-fn write_pair(out: &mut [u8], at: usize, x: u16, y: u16)
-    requires { at + 4 ≤ length out.old }
-    ensures { out.new ≡ sets out.old at (words (x ∷ y ∷ [])) }
+// A record at the start of an output that has room for it: its length, its kind, and its body's numbers.
+fn put_record<const N: usize>(kind: u16, body: [u16; N], out: &mut [u8])
+    requires { (N ≤ 5) × (4 + 2 * N ≤ length out.old) }
+    ensures { out.new ≡ written (record_of kind body.entry) out.old }
 {
-    write_word(out, at, x);
-    write_word(out, at + 2, y);
-}
-
-// A record of a kind whose body has no number, one, or two.
-fn write_none(kind: u16, out: &mut [u8]) -> Written
-    ensures { Writes (tried (record_of kind []) out.old) result out.new }
-{
-    if out.len() < 4 {
-        return Written::Refused(2);
+    write_word(out, 0, (2 + 2 * N) as u16);
+    write_word(out, 2, kind);
+    for (i, x) in body.iter().enumerate() {
+        write_word(out, 4 + 2 * i, *x);
     }
-    write_pair(out, 0, 2, kind);
-    Written::Bytes(4)
 }
 
-fn write_one(kind: u16, a: u16, out: &mut [u8]) -> Written
-    ensures { Writes (tried (record_of kind (a ∷ [])) out.old) result out.new }
+// A record, where there is room for it.
+#[tactic(auto, unfolding(crate::specs::Writing::tried), using(crate::proofs::Stores::length_record))]
+fn write_record<const N: usize>(kind: u16, body: [u16; N], out: &mut [u8]) -> Result<u32, Refused>
+    requires { N ≤ 5 }
+    ensures { Writes (tried (record_of kind body.entry) out.old) result out.new }
 {
-    if out.len() < 6 {
-        return Written::Refused(2);
+    if out.len() < 4 + 2 * N {
+        return Err(Refused::Short);
     }
-    write_pair(out, 0, 4, kind);
-    write_word(out, 4, a);
-    Written::Bytes(6)
+    put_record(kind, body, out);
+    Ok((4 + 2 * N) as u32)
 }
 
-#[tactic(auto, unfolding(crate::specs::Writing::tried, hop_rule::specs::Records::record_of, hop_rule::specs::Records::words))]
-fn write_two(kind: u16, a: u16, b: u16, out: &mut [u8]) -> Written
-    ensures { Writes (tried (record_of kind (a ∷ b ∷ [])) out.old) result out.new }
-{
-    if out.len() < 8 {
-        return Written::Refused(2);
-    }
-    write_pair(out, 0, 6, kind);
-    write_pair(out, 4, a, b);
-    Written::Bytes(8)
-}
-
-// Writing the event that a kind and two numbers say, for callers that have it so. By how many numbers the kind has: this is faster than a way for each kind.
-pub fn write_kind(kind: u32, first: u16, second: u16, out: &mut [u8]) -> Written
+// Writing the event that a kind and two numbers say, for callers that have it so. A kind is a number, as in C's call and in the bytes: an enum of the kinds would be one more match from a number, and one back.
+#[tactic(auto, unfolding(crate::specs::Writing::wrote_event, hop_rule::specs::Records::known), using(crate::proofs::Known::make_written, crate::proofs::Known::pass_written, crate::proofs::Known::pair_written))]
+pub fn write_kind(kind: u32, first: u16, second: u16, out: &mut [u8]) -> Result<u32, Refused>
     ensures { Writes (wrote_event kind first second out.old) result out.new }
 {
-    let size = length_of(kind);
-    if size == 0 {
-        return Written::Refused(10);
-    }
-    let kind = kind as u16;
-    match size {
-        6 => write_two(kind, first, second, out),
-        4 => write_one(kind, first, out),
-        _ => write_none(kind, out),
+    match kind {
+        15 => write_record(15, [first], out),
+        16 | 17 | 18 | 20 => write_record(kind as u16, [first, second], out),
+        19 => write_record(19, [], out),
+        ..15 | 21.. => Err(Refused::UnknownKind),
     }
 }
 
 // Writing an event, for callers in Rattle. It needs its length + 2 bytes; the bytes after them stay.
-pub fn write_event(e: Event, out: &mut [u8]) -> Written
+#[tactic(auto, using(crate::proofs::Known::own_written))]
+pub fn write_event(e: Event, out: &mut [u8]) -> Result<u32, Refused>
     ensures { Writes (outcome (write_event e) [] out.old) result out.new }
 {
-    let p = numbers_of(e);
-    write_kind(p.kind, p.first, p.second, out)
+    let Numbers {
+        kind,
+        first,
+        second,
+    } = Numbers::from(e);
+    write_kind(kind, first, second, out)
 }
 
 // The status record, where there is room for its 14 bytes.
@@ -150,22 +112,40 @@ pub fn write_status(
     requires { (14 ≤ length out.old) × (node < 65536) × (waiting_for < 65536) × (waiting_from < 65536) × (reached < 65536) × (total < 65536) }
     ensures { out.new ≡ written (record_of 1 (node ∷ waiting_for ∷ waiting_from ∷ reached ∷ total ∷ [])) out.old }
 {
-    write_pair(out, 0, 12, 1);
-    write_pair(out, 4, node as u16, waiting_for as u16);
-    write_pair(out, 8, waiting_from as u16, reached as u16);
-    write_word(out, 12, total as u16);
+    let body = [
+        node as u16,
+        waiting_for as u16,
+        waiting_from as u16,
+        reached as u16,
+        total as u16,
+    ];
+    put_record(1, body, out);
 }
 
 // One little-endian 16-bit number from a place.
+#[tactic(auto, unfolding(hop_rule::specs::Records::word_at))]
 fn word_at(s: &[u8], at: usize) -> u16
     requires { at + 2 ≤ length s.now }
     ensures { result ≡ word_at s.now at }
 {
-    s[at] as u16 + 256 * (s[at + 1] as u16)
+    u16::from_le_bytes([s[at], s[at + 1]])
+}
+
+// The length of a known kind's record.
+#[tactic(auto, unfolding(hop_rule::specs::Records::length_of))]
+fn length_of(kind: u16) -> u16
+    ensures { result ≡ length_of kind }
+{
+    match kind {
+        15 => 4,
+        19 => 2,
+        _ => 6,
+    }
 }
 
 // The event of a kind, from its body at a place.
-fn event_at(kind: u32, s: &[u8], at: usize) -> Event
+#[tactic(auto, unfolding(hop_rule::specs::Records::length_of, hop_rule::specs::Records::event_of))]
+fn event_at(kind: u16, s: &[u8], at: usize) -> Event
     requires { at + length_of kind ≤ 2 + length s.now }
     ensures { result ≡ event_at kind s.now at }
 {
@@ -180,52 +160,53 @@ fn event_at(kind: u32, s: &[u8], at: usize) -> Event
 }
 
 // Reading a record of a known kind, which tells its length and so the next place.
-fn read_known(kind: u32, s: &[u8], place: usize) -> Reading
+#[tactic(auto, unfolding(hop_rule::specs::Records::read_event))]
+fn read_known(kind: u16, s: &[u8], place: usize) -> Result<Option<(Event, usize)>, Refused>
     requires { (place + 4 ≤ length s.now) × (word_at s.now (place + 2) ≡ kind) × (known kind ≡ true) }
     ensures { result ≡ read_event s.now place }
 {
     let size = length_of(kind);
-    if word_at(s, place) == size {
-        if size as usize + 2 <= s.len() - place {
-            Reading::Found(event_at(kind, s, place + 4), place + 2 + size as usize)
-        } else {
-            Reading::Refused(9)
-        }
-    } else {
-        Reading::Refused(11)
+    if word_at(s, place) != size {
+        return Err(Refused::WrongLength);
     }
+    let whole = 2 + usize::from(size);
+    if s.len() - place < whole {
+        return Err(Refused::CutShort);
+    }
+    Ok(Some((event_at(kind, s, place + 4), place + whole)))
 }
 
-// Reading where at least a length and a kind are left. A way for each kind, in which its length is fixed: a length that is looked up would have the next record wait for it.
-fn read_record(s: &[u8], place: usize) -> Reading
+// Reading where at least a length and a kind are left. A way for each kind, in which its length is fixed: with one way for all, whose length is looked up, the next record waits for it, and reading takes a twentieth longer.
+#[tactic(auto, unfolding(hop_rule::specs::Records::read_event, hop_rule::specs::Records::known))]
+fn read_record(s: &[u8], place: usize) -> Result<Option<(Event, usize)>, Refused>
     requires { place + 4 ≤ length s.now }
     ensures { result ≡ read_event s.now place }
 {
-    let kind = word_at(s, place + 2);
-    match kind {
+    match word_at(s, place + 2) {
         15 => read_known(15, s, place),
         16 => read_known(16, s, place),
         17 => read_known(17, s, place),
         18 => read_known(18, s, place),
         19 => read_known(19, s, place),
         20 => read_known(20, s, place),
-        _ => Reading::Refused(10),
+        _ => Err(Refused::UnknownKind),
     }
 }
 
-// Reading at any place. No test adds to the place before it is known to lie within the bytes.
-pub fn read_event(s: &[u8], place: usize) -> Reading
+// Reading at any place: an event and the place after its record, or none where the bytes end. No test adds to the place before it is known to lie within the bytes.
+#[tactic(auto, unfolding(hop_rule::specs::Records::read_event))]
+pub fn read_event(s: &[u8], place: usize) -> Result<Option<(Event, usize)>, Refused>
     ensures { result ≡ read_event s.now place }
 {
     if place < s.len() {
-        if 4 <= s.len() - place {
-            read_record(s, place)
+        if s.len() - place < 4 {
+            Err(Refused::CutShort)
         } else {
-            Reading::Refused(9)
+            read_record(s, place)
         }
     } else if place == s.len() {
-        Reading::End
+        Ok(None)
     } else {
-        Reading::Refused(9)
+        Err(Refused::CutShort)
     }
 }

@@ -1,4 +1,5 @@
 -- Check accepts every state of the program, as every call leaves an accepted buffer accepted. So refusal 3 is never printed, and in a buffer of 8 bytes or more the total and the routes that are printed are the rule's. Assumes nothing.
+use Rattle.std.specs.Prelude.{Some, None, Ok, Err}
 use mathlib.Core.Path.{◌≡◌, refl, sym, ◌∙◌}
 use mathlib.Core.Logic.{◌≢◌}
 use mathlib.Core.List.{List, []}
@@ -9,11 +10,10 @@ use lib.ListN.{length}
 use borrow.Author.Tests.{ltb-false, le-ltb}
 use Rattle.hop_rule.specs.declared.Event.{Event}
 use Rattle.hop_rule.specs.declared.Event.TheVariants.{Make, Up, Down, Deliver, Pass, Notice}
-use Rattle.hop_rule.specs.declared.Reading.{Reading}
-use Rattle.hop_rule.specs.declared.Reading.TheVariants.{Found, End, Refused}
+use Rattle.hop_rule.specs.declared.Refused.{Refused}
 use Rattle.hop_rule.specs.Rule.{total}
 use Rattle.hop_rule.specs.Stored.{size, nodes, read}
-use Rattle.hop_rule.specs.Records.{read_event}
+use Rattle.hop_rule.specs.Records.{Reading, read_event}
 use Rattle.hop_rule.specs.Calls.{make, bad_count, short, judge, refusals, outcome}
 use Rattle.hop_laws.specs.Fine.{Fine}
 use Rattle.hop_laws.proofs.Calls.{judge_none, good_count, outcome_number, state_fine}
@@ -32,9 +32,9 @@ events_accepted zero script p ordinal s z = z
 events_accepted (suc k) script p ordinal s z = go (read_event script p) refl (λ q t. events_accepted k script q (suc ordinal) t)
   where
     go : (r : Reading) → read_event script p ≡ r → ((q : ℕ) (t : List ℕ) → Accepted t → Accepted (events k script q (suc ordinal) t).bytes) → Accepted (events (suc k) script p ordinal s).bytes
-    go (Found e q) h rest = rw (events_found k script p ordinal s h) (rest q _ (accepted_stays (call_of e) s [] z))
-    go End h rest = rw (events_end k script p ordinal s h) z
-    go (Refused c) h rest = rw (events_refused k script p ordinal s h) z
+    go (Ok (Some (e, q))) h rest = rw (events_found k script p ordinal s h) (rest q _ (accepted_stays (call_of e) s [] z))
+    go (Ok None) h rest = rw (events_end k script p ordinal s h) z
+    go (Err r) h rest = rw (events_refused k script p ordinal s h) z
 
 pub played_accepted : (script buffer : List ℕ) → 8 ≤ length buffer → Accepted (played script buffer).bytes
 unfolding played refusals size judge

@@ -2,7 +2,8 @@
 use mathlib.Core.Path.{◌≡◌, refl, ap}
 use mathlib.Core.List.{List, []}
 use Prim.Native.Nat.{ℕ}
-use lib.ListN.{take}
+use lib.ListN.{take, length-append}
+use Rattle.hop_text.proofs.Writing.{sets_append}
 use Rattle.hop_rule.specs.declared.Event.{Event}
 use Rattle.hop_rule.specs.Calls.{Call, make, Outcome, outcome}
 use Rattle.hop_records.specs.declared.Numbers.{Numbers}
@@ -10,9 +11,10 @@ use Rattle.hop_records.specs.Writing.{numbers_of}
 use Rattle.hop_text.specs.Text.{event_line}
 use Rattle.hop_replay.specs.Replay.{call_of, queued, applied_line, events_of, played}
 
--- An event is applied by its call.
-pub applied : (e : Event) (s : List ℕ) {c : Call} {o : Outcome} → call_of e ≡ c → o ≡ outcome c s [] → (o.number ≡ (outcome (call_of e) s []).number) × (o.bytes ≡ (outcome (call_of e) s []).bytes)
-applied e s h k = rw (h, ← k) (refl, refl)
+-- An event is applied by its call, and the number that is printed is the outcome's.
+pub applied : (e : Event) (s : List ℕ) {c : Call} {o : Outcome} → call_of e ≡ c → o ≡ outcome c s [] → {x : ℕ} → x ≡ o.number
+    → (x ≡ (outcome (call_of e) s []).number) × (o.bytes ≡ (outcome (call_of e) s []).bytes)
+applied e s h k n = rw (h, ← k) (n, refl)
 
 -- Its line is made of these four numbers.
 pub applied_line_is : (ordinal : ℕ) (e : Event) (s : List ℕ) {p : Numbers} {code waits : ℕ} {t : List ℕ}
@@ -28,3 +30,6 @@ pub played_is : (script buffer : List ℕ) {input s : List ℕ} → input ≡ ta
     → events_of input s ≡ played script buffer
 unfolding played
 played_is script buffer h k = rw (h, k)
+
+-- With these the check finds that header, events and routes are the whole text.
+pub ruleset playing = (played_is, sets_append, length-append)

@@ -1,4 +1,5 @@
 -- The text has at most 92,072 bytes: a header of 23, 4,097 event lines of 17, and 1,600 `d` lines of 14. Assumes nothing.
+use Rattle.std.specs.Prelude.{Some, None, Ok, Err}
 use mathlib.Core.Path.{◌≡◌, refl, subst}
 use mathlib.Core.Logic.{◌⊎◌, inl, inr}
 use mathlib.Core.Bool.{Bool, true, false, cond, not}
@@ -11,15 +12,15 @@ use lib.Dec.{eqb, ltb}
 use lib.ListN.{length, take, length-append, length-take}
 use Rattle.hop_rule.specs.declared.Event.{Event}
 use Rattle.hop_rule.specs.declared.Event.TheVariants.{Make, Up, Down, Deliver, Pass, Notice}
-use Rattle.hop_rule.specs.declared.Reading.{Reading}
-use Rattle.hop_rule.specs.declared.Reading.TheVariants.{Found, End, Refused}
+use Rattle.hop_rule.specs.Refused.{number}
 use Rattle.hop_rule.specs.Words.{joined}
 use Rattle.hop_rule.specs.State.{State}
 use Rattle.hop_rule.specs.Stored.{read_as, read}
 use Rattle.hop_rule.specs.Sound.{Sound}
-use Rattle.hop_rule.specs.Records.{word_at, known, length_of, read_event}
+use Rattle.hop_rule.specs.Records.{Reading, word_at, known, length_of, read_event}
 use Rattle.hop_rule.specs.Calls.{Refusal, make, check, total_queued, judge, refusals, answer_at, outcome}
 use Rattle.hop_laws.specs.Current.{Current}
+use Rattle.hop_laws.proofs.Refused.{number_within}
 use Rattle.hop_laws.proofs.Rule.{distance_of_most, sound_current, current_own, current_none, current_gives}
 use Rattle.hop_laws.proofs.Ceiling.{total_fits}
 use Rattle.hop_laws.proofs.Calls.{outcome_number, answer_done, state_fine}
@@ -61,29 +62,6 @@ number_small e s =
     ]) in
     omega (arith, outcome_number (call_of e) s [])
 
--- A reading's refusal is 9, 10 or 11.
-data Small : Reading → Type 0 where
-  found : {e : Event} {q : ℕ} → Small (Found e q)
-  end : Small End
-  refused : (c : ℕ) → c < 100 → Small (Refused c)
-
-small_refused : {c : ℕ} → Small (Refused c) → c < 100
-small_refused (refused c l) = l
-
-small_either : (b : Bool) {x y : Reading} → Small x → Small y → Small (cond b x y)
-small_either true h k = h
-small_either false h k = k
-
-reading_small : (s : List ℕ) (p : ℕ) → Small (read_event s p)
-unfolding read_event
-reading_small s p =
-    small_either (ltb (length s) p) (refused 9 (omega arith))
-    (small_either (eqb (length s) p) end
-    (small_either (ltb (length s) (p + 4)) (refused 9 (omega arith))
-    (small_either (not (known (word_at s (p + 2)))) (refused 10 (omega arith))
-    (small_either (not (eqb (word_at s p) (length_of (word_at s (p + 2))))) (refused 11 (omega arith))
-    (small_either (ltb (length s) (p + 2 + word_at s p)) (refused 9 (omega arith)) found)))))
-
 -- An answer past 0 is that of a total which was not refused.
 queued_small : (s : List ℕ) → queued s < 100000
 unfolding queued refusals read_as
@@ -109,13 +87,13 @@ events_short (suc k) script p ordinal s small within counted = go (read_event sc
     go : (r : Reading) → read_event script p ≡ r
         → ((q : ℕ) (t : List ℕ) → q ≤ length script → 4 * suc ordinal ≤ q + 4 → 4 * length (events k script q (suc ordinal) t).text ≤ 17 * (length script - q + 4))
         → 4 * length (events (suc k) script p ordinal s).text ≤ 17 * (length script - p + 4)
-    go (Found e q) h rest =
+    go (Ok (Some (e, q))) h rest =
         let (after, inside) = found_place script p h in
         let t = (outcome (call_of e) s []).bytes in
         rw (events_found k script p ordinal s h)
         (omega (arith, length-append (applied_line ordinal e s) (events k script q (suc ordinal) t).text, applied_short ordinal e s (omega arith), rest q t inside (omega arith)))
-    go End h rest = rw (events_end k script p ordinal s h) (omega arith)
-    go (Refused c) h rest = rw (events_refused k script p ordinal s h) (omega (arith, event_short ordinal 0 c (queued s) (omega arith) (omega arith) (small_refused (subst Small h (reading_small script p))) (queued_small s)))
+    go (Ok None) h rest = rw (events_end k script p ordinal s h) (omega arith)
+    go (Err r) h rest = rw (events_refused k script p ordinal s h) (omega (arith, event_short ordinal 0 (number r) (queued s) (omega arith) (omega arith) (omega (arith, number_within r)) (queued_small s)))
 
 -- ---- the `d` lines
 
@@ -174,3 +152,6 @@ replayed_short script buffer =
 -- So every place in it is far below 2³².
 pub replayed_ends : (script buffer : List ℕ) → Ends (replayed script buffer).text 0
 replayed_ends script buffer = record { below = omega (arith, replayed_short script buffer) }
+
+-- With these the check finds that the page has an end, and how long the text is.
+pub ruleset replaying = (replayed_short, replayed_ends)

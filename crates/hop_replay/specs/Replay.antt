@@ -1,8 +1,8 @@
 -- 01, 'The program': from a script of records to the text that is printed. Uses hop_text's Text for the lines, and hop_rule's Route, Records and Calls.
-use Rattle.std.specs.Prelude.{List, [], ◌++◌, ℕ, zero, suc, eqb, length, take, replicate, if◌then◌else◌}
+use Rattle.std.specs.Prelude.{Some, None, Ok, Err, List, [], ◌++◌, ℕ, zero, suc, eqb, length, take, replicate, if◌then◌else◌}
 use Rattle.hop_rule.specs.declared.Event.{Event}
 use Rattle.hop_rule.specs.declared.Event.TheVariants.{Make, Up, Down, Deliver, Pass, Notice}
-use Rattle.hop_rule.specs.declared.Reading.TheVariants.{Found, End, Refused}
+use Rattle.hop_rule.specs.Refused.{number}
 use Rattle.hop_rule.specs.Words.{joined}
 use Rattle.hop_rule.specs.State.{State}
 use Rattle.hop_rule.specs.Route.{route}
@@ -38,11 +38,11 @@ unfoldable pub events : ℕ → List ℕ → ℕ → ℕ → List ℕ → Replay
 events zero script p ordinal s = record { text = []; bytes = s }
 events (suc k) script p ordinal s =
     elim (read_event script p) [
-      | Found e next ↦
+      | Ok (Some (e, next)) ↦
           let rest = events k script next (suc ordinal) (outcome (call_of e) s []).bytes in
           record { text = applied_line ordinal e s ++ rest.text; bytes = rest.bytes }
-      | End ↦ record { text = []; bytes = s }
-      | Refused c ↦ record { text = event_line ordinal 0 c (queued s); bytes = s }
+      | Ok None ↦ record { text = []; bytes = s }
+      | Err r ↦ record { text = event_line ordinal 0 (number r) (queued s); bytes = s }
     ]
 
 -- Every pair, ascending: the line of one pair, those of one node, and those of every node.

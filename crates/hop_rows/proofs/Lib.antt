@@ -1,3 +1,5 @@
-pub mod Inside
 pub mod Every
+pub mod Inside
+pub mod Parts
 pub mod RowTests
+pub mod Slices

@@ -1,5 +1,5 @@
 -- What each test on a row tells of the numbers that the row reads as. Assumes nothing.
-use mathlib.Core.Path.{◌≡◌}
+use mathlib.Core.Path.{◌≡◌, refl}
 use mathlib.Core.List.{List}
 use Prim.Native.Nat.{ℕ, ◌<◌}
 use Rattle.hop_laws.proofs.Tests.{Tells, tells_eq, tells_lt, tells_not, tells_and, tells_every}
@@ -8,6 +8,9 @@ use Rattle.hop_rows.specs.Rows.{byte, all_are, both_are, all_below, none_is, sam
 -- The row at a place reads as f.
 pub record Reads (s : List ℕ) (at : ℕ) (f : ℕ → ℕ) : Type 0 where
   pub reads : (i : ℕ) → byte s at i ≡ f i
+
+pub itself : (s : List ℕ) (at : ℕ) → Reads s at (byte s at)
+itself s at = record { reads = λ i. refl }
 
 module _ {s : List ℕ} {at : ℕ} {f : ℕ → ℕ} (r : Reads s at f) where
   pub tells_are : (k x : ℕ) → Tells (all_are s at k x) ((i : ℕ) → i < k → f i ≡ x)

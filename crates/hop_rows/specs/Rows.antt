@@ -1,5 +1,5 @@
 -- Rows of bytes: where they start, and what plain tests find out about them, for the check and for sending. A row starts at a place of the buffer and has k bytes. A buyer needs none of it.
-use Rattle.std.specs.Prelude.{Bool, not, ◌&&◌, List, ℕ, ◌+◌, ◌*◌, eqb, ltb, get_or}
+use Rattle.std.specs.Prelude.{Bool, not, ◌&&◌, ◌≡◌, List, ℕ, ◌+◌, ◌*◌, ◌<◌, eqb, ltb, length, get_or}
 use Rattle.hop_rule.specs.declared.Table.{Table}
 use Rattle.hop_rule.specs.Words.{every}
 use Rattle.hop_rule.specs.Stored.{start}
@@ -11,6 +11,11 @@ row n t i = start n t + i * n
 -- Byte i of a row.
 abbrev pub byte : List ℕ → ℕ → ℕ → ℕ
 byte s at i = get_or s (at + i) 0
+
+-- r is the row of k bytes at a place of s.
+pub record IsRow (s : List ℕ) (at k : ℕ) (r : List ℕ) : Type 0 where
+  pub long : length r ≡ k
+  pub bytes : (i : ℕ) → i < k → byte r 0 i ≡ byte s at i
 
 -- Each byte is x.
 unfoldable pub all_are : List ℕ → ℕ → ℕ → ℕ → Bool

@@ -1,3 +1,4 @@
+pub mod Refused
 pub mod Words
 pub mod State
 pub mod Route

@@ -1,9 +1,8 @@
 -- 01, 'Records' and 'The program': the worked input read record by record, and each answer that reading can give, as one table. Uses Records.
-use Rattle.std.specs.Prelude.{◌≡◌, refl, List, [], ◌∷◌, ◌++◌, map, ℕ}
+use Rattle.std.specs.Prelude.{◌≡◌, refl, Some, None, Ok, Err, List, [], ◌∷◌, ◌++◌, map, ℕ}
 use Rattle.hop_rule.specs.declared.Event.TheVariants.{Make, Up, Down, Deliver, Pass, Notice}
-use Rattle.hop_rule.specs.declared.Reading.{Reading}
-use Rattle.hop_rule.specs.declared.Reading.TheVariants.{Found, End, Refused}
-use Rattle.hop_rule.specs.Records.{words, word_at, record_of, kind_of, body_of, event_record, known, length_of, event_of, read_event}
+use Rattle.hop_rule.specs.declared.Refused.TheVariants.{CutShort, UnknownKind, WrongLength}
+use Rattle.hop_rule.specs.Records.{words, word_at, record_of, kind_of, body_of, event_record, known, length_of, event_of, Reading, read_event}
 
 -- Bytes, a place, and what is read there.
 pub data Sample : Type 0 where
@@ -25,28 +24,28 @@ script_is = refl
 
 unfoldable pub samples : List Sample
 samples =
-    at script 0 (Found (Make 2) 6)
-    ∷ at script 6 (Found (Up 0 1) 14)
-    ∷ at script 14 (Found Pass 18)
-    ∷ at script 18 (Found Pass 22)
+    at script 0 (Ok (Some (Make 2, 6)))
+    ∷ at script 6 (Ok (Some (Up 0 1, 14)))
+    ∷ at script 14 (Ok (Some (Pass, 18)))
+    ∷ at script 18 (Ok (Some (Pass, 22)))
     -- no bytes left is the plain end; a place past the end is 9
-    ∷ at script 22 End
-    ∷ at script 23 (Refused 9)
+    ∷ at script 22 (Ok None)
+    ∷ at script 23 (Err CutShort)
     -- body numbers run to 65,535
-    ∷ at (6 ∷ 0 ∷ 17 ∷ 0 ∷ 255 ∷ 255 ∷ 0 ∷ 1 ∷ []) 0 (Found (Down 65535 256) 8)
-    ∷ at (6 ∷ 0 ∷ 18 ∷ 0 ∷ 1 ∷ 0 ∷ 2 ∷ 0 ∷ 7 ∷ []) 0 (Found (Deliver 1 2) 8)
+    ∷ at (6 ∷ 0 ∷ 17 ∷ 0 ∷ 255 ∷ 255 ∷ 0 ∷ 1 ∷ []) 0 (Ok (Some (Down 65535 256, 8)))
+    ∷ at (6 ∷ 0 ∷ 18 ∷ 0 ∷ 1 ∷ 0 ∷ 2 ∷ 0 ∷ 7 ∷ []) 0 (Ok (Some (Deliver 1 2, 8)))
     -- R-5's kind 20, noticing end first
-    ∷ at (event_record (Notice 3 1)) 0 (Found (Notice 3 1) 8)
-    ∷ at (6 ∷ 0 ∷ 20 ∷ 0 ∷ 1 ∷ 0 ∷ 2 ∷ 0 ∷ []) 0 (Found (Notice 1 2) 8)
+    ∷ at (event_record (Notice 3 1)) 0 (Ok (Some (Notice 3 1, 8)))
+    ∷ at (6 ∷ 0 ∷ 20 ∷ 0 ∷ 1 ∷ 0 ∷ 2 ∷ 0 ∷ []) 0 (Ok (Some (Notice 1 2, 8)))
     -- fewer than 4 bytes 9; then an unknown kind 10, a status record too; a wrong length 11, cut or not; a cut body 9
-    ∷ at (4 ∷ 0 ∷ 15 ∷ []) 0 (Refused 9)
-    ∷ at (12 ∷ 0 ∷ 1 ∷ 0 ∷ []) 0 (Refused 10)
-    ∷ at (6 ∷ 0 ∷ 21 ∷ 0 ∷ 1 ∷ 0 ∷ 2 ∷ 0 ∷ []) 0 (Refused 10)
-    ∷ at (6 ∷ 0 ∷ 15 ∷ 0 ∷ []) 0 (Refused 11)
-    ∷ at (2 ∷ 0 ∷ 15 ∷ 0 ∷ 2 ∷ 0 ∷ []) 0 (Refused 11)
-    ∷ at (2 ∷ 0 ∷ 20 ∷ 0 ∷ []) 0 (Refused 11)
-    ∷ at (4 ∷ 0 ∷ 15 ∷ 0 ∷ 2 ∷ []) 0 (Refused 9)
-    ∷ at (6 ∷ 0 ∷ 20 ∷ 0 ∷ 1 ∷ 0 ∷ 2 ∷ []) 0 (Refused 9)
+    ∷ at (4 ∷ 0 ∷ 15 ∷ []) 0 (Err CutShort)
+    ∷ at (12 ∷ 0 ∷ 1 ∷ 0 ∷ []) 0 (Err UnknownKind)
+    ∷ at (6 ∷ 0 ∷ 21 ∷ 0 ∷ 1 ∷ 0 ∷ 2 ∷ 0 ∷ []) 0 (Err UnknownKind)
+    ∷ at (6 ∷ 0 ∷ 15 ∷ 0 ∷ []) 0 (Err WrongLength)
+    ∷ at (2 ∷ 0 ∷ 15 ∷ 0 ∷ 2 ∷ 0 ∷ []) 0 (Err WrongLength)
+    ∷ at (2 ∷ 0 ∷ 20 ∷ 0 ∷ []) 0 (Err WrongLength)
+    ∷ at (4 ∷ 0 ∷ 15 ∷ 0 ∷ 2 ∷ []) 0 (Err CutShort)
+    ∷ at (6 ∷ 0 ∷ 20 ∷ 0 ∷ 1 ∷ 0 ∷ 2 ∷ []) 0 (Err CutShort)
     ∷ []
 
 -- The one statement: each sample is read as it says.

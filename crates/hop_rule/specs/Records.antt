@@ -1,9 +1,10 @@
 -- 01, 'Records': events and the status record as bytes, written and read. Uses State, Rule and Words.
-use Rattle.std.specs.Prelude.{Bool, ◌||◌, not, List, [], ◌∷◌, ◌++◌, ℕ, ◌+◌, ◌*◌, ◌/◌, ◌%◌, eqb, ltb, length, get_or, drop, if◌then◌else◌}
+use Rattle.std.specs.Prelude.{Bool, ◌||◌, not, Option, Some, None, Result, Ok, Err, List, [], ◌∷◌, ◌++◌, ℕ, ◌+◌, ◌*◌, ◌/◌, ◌%◌, eqb, ltb, length, get_or, drop, if◌then◌else◌}
 use Rattle.hop_rule.specs.declared.Event.{Event}
 use Rattle.hop_rule.specs.declared.Event.TheVariants.{Make, Up, Down, Deliver, Pass, Notice}
-use Rattle.hop_rule.specs.declared.Reading.{Reading}
-use Rattle.hop_rule.specs.declared.Reading.TheVariants.{Found, End, Refused}
+use Rattle.hop_rule.specs.declared.Refused.{Refused}
+use Rattle.hop_rule.specs.declared.Refused.TheVariants.{CutShort, UnknownKind, WrongLength}
+use Rattle.hop_rule.specs.Refused.{code}
 use Rattle.hop_rule.specs.State.{State}
 use Rattle.hop_rule.specs.Rule.{total, waiting_for, waiting_from, reached}
 
@@ -68,31 +69,33 @@ event_of kind first second =
 abbrev pub event_at : ℕ → List ℕ → ℕ → Event
 event_at kind s p = event_of kind (word_at s p) (word_at s (p + 2))
 
+-- What reading at a place finds: an event and the place after its record, or none at the plain end, or a refusal.
+abbrev pub Reading : Type 0
+Reading = Result (Option (Event × ℕ)) Refused
+
 -- Reading at place p. Order: a place past the end 9; no bytes left is the plain end; fewer than 4 bytes 9, then 10, 11, body cut 9.
 unfoldable pub read_event : List ℕ → ℕ → Reading
 read_event s p =
-    if ltb (length s) p then Refused 9
-    else if eqb (length s) p then End
-    else if ltb (length s) (p + 4) then Refused 9
-    else if not (known (word_at s (p + 2))) then Refused 10
-    else if not (eqb (word_at s p) (length_of (word_at s (p + 2)))) then Refused 11
-    else if ltb (length s) (p + 2 + word_at s p) then Refused 9
-    else Found (event_at (word_at s (p + 2)) s (p + 4)) (p + 2 + word_at s p)
+    if ltb (length s) p then Err CutShort
+    else if eqb (length s) p then Ok None
+    else if ltb (length s) (p + 4) then Err CutShort
+    else if not (known (word_at s (p + 2))) then Err UnknownKind
+    else if not (eqb (word_at s p) (length_of (word_at s (p + 2)))) then Err WrongLength
+    else if ltb (length s) (p + 2 + word_at s p) then Err CutShort
+    else Ok (Some (event_at (word_at s (p + 2)) s (p + 4), p + 2 + word_at s p))
 
 -- What reading answers, as 01's numbers: the number of the refusal, 0 for an event and for the plain end;
-unfoldable pub number_of : Reading → ℕ
-number_of (Found e next) = 0
-number_of End = 0
-number_of (Refused c) = c
+abbrev pub number_of : Reading → ℕ
+number_of = code
 
 -- the event's kind and its kind's numbers, none at the end and at a refusal;
 unfoldable pub answers_of : Reading → List ℕ
-answers_of (Found e next) = kind_of e ∷ body_of e
-answers_of End = []
-answers_of (Refused c) = []
+answers_of (Ok (Some (e, next))) = kind_of e ∷ body_of e
+answers_of (Ok None) = []
+answers_of (Err r) = []
 
 -- and the place to read at next: past the record that was found; a refusal or the end leaves it as it was.
 unfoldable pub place_after : Reading → ℕ → ℕ
-place_after (Found e next) at = next
-place_after End at = at
-place_after (Refused c) at = at
+place_after (Ok (Some (e, next))) at = next
+place_after (Ok None) at = at
+place_after (Err r) at = at

@@ -1,4 +1,5 @@
 // Passes and runs on the bytes of a stored state.
+// What `as` narrows here is proved to fit; `try_from` would add an error that cannot be.
 #![tactic(auto)]
 
 ghost use Rattle.std.specs.Prelude.{◌≡◌, ℕ, ◌+◌, ◌*◌, ◌<◌, ◌≤◌, length, get_or};
@@ -6,10 +7,11 @@ ghost use Rattle.hop_rule.specs.declared.Table.TheVariants.{Lengths};
 ghost use Rattle.hop_rule.specs.Words.{loop};
 ghost use Rattle.hop_cells.specs.Cells as cell;
 ghost use Rattle.hop_cells.specs.Cells.{Room};
-ghost use Rattle.hop_counts.specs.Counts.{queued};
+ghost use Rattle.hop_counts.specs.Counts as counts;
 ghost use Rattle.hop_runs.specs.Runs as runs;
 
-use hop_cells::{get, square, wide};
+use hop_cells::{Stored, square, start};
+use hop_counts::queued;
 use hop_rows::all_are;
 use hop_rule::Table;
 use hop_steps::drain;
@@ -22,30 +24,29 @@ pub struct Ran {
 }
 
 // The lengths of all queues, by sender and receiver, are noted; and how many entries that is.
-fn note(s: &[u8], n: usize, noted: &mut [u8]) -> u32
-    requires { Room n s.now × (n * n ≤ length noted.old) }
-    ensures { (result ≡ queued n s.now) × (result ≤ 408000) × ((i : ℕ) → i < n * n → get_or noted.new i 0 ≡ cell.get n Lengths i s.now) }
+fn note(s: Stored, noted: &mut [u8]) -> u32
+    requires { s.n * s.n ≤ length noted.old }
+    ensures { (result ≡ counts.queued s.entry.n s.entry.bytes.now) × (result ≤ 408000) × ((i : ℕ) → i < s.entry.n * s.entry.n → get_or noted.new i 0 ≡ cell.get s.entry.n Lengths i s.entry.bytes.now) }
 {
-    let mut sum = 0u32;
-    for i in 0..square(n) {
-        let x = get(s, n, Table::Lengths, i);
-        noted[i] = x;
-        sum += x as u32;
-    }
-    sum
+    let k = square(s.n);
+    let from = start(s.n, Table::Lengths);
+    noted[..k].copy_from_slice(&s.bytes[from..from + k]);
+    queued(s) as u32
 }
 
 // The queue at place i gives up as many entries as are noted for it.
+#[tactic(auto, unfolding(hop_steps::specs::Steps::drain))]
 fn pass_at(s: &mut [u8], n: usize, noted: &[u8], i: usize)
     requires { Room n s.old × (n * n ≤ length noted.now) × (i < n * n) }
     ensures { s.new ≡ runs.pass_at n noted.now i s.old }
 {
     if noted[i] != 0 {
-        drain(s, n, i / n, i % n, wide(noted[i]));
+        drain(s, n, i / n, i % n, usize::from(noted[i]));
     }
 }
 
 // The k queues from place i on.
+#[tactic(auto, using(hop_laws::proofs::Words::loop_none, hop_laws::proofs::Words::loop_turn))]
 fn pass_some(s: &mut [u8], n: usize, noted: &[u8], i: usize, k: usize)
     requires { Room n s.old × (n * n ≤ length noted.now) × (i + k ≤ n * n) }
     ensures { s.new ≡ loop k (λ (j : ℕ). runs.pass_at n noted.now (i + j)) s.old }
@@ -60,7 +61,7 @@ fn pass_eight(s: &mut [u8], n: usize, noted: &[u8], i: usize)
     requires { Room n s.old × (n * n ≤ length noted.now) × (i + 8 ≤ n * n) }
     ensures { s.new ≡ loop 8 (λ (j : ℕ). runs.pass_at n noted.now (i + j)) s.old }
 {
-    if all_are(noted, i, 8, 0) {
+    if all_are(&noted[i..i + 8], 0) {
         return;
     }
     pass_some(s, n, noted, i, 8);
@@ -93,7 +94,7 @@ pub fn pass(s: &mut [u8], n: usize)
     ensures { s.new ≡ runs.pass n s.old }
 {
     let mut noted = [0u8; 1600];
-    note(s, n, &mut noted);
+    note(Stored { bytes: s, n }, &mut noted);
     pass_noted(s, n, &noted);
 }
 
@@ -103,19 +104,20 @@ pub fn run(s: &mut [u8], n: usize, k: u32) -> Ran
     ensures { (result ≡ runs.ran n k s.old) × (s.new ≡ runs.run n k s.old) }
 {
     let mut noted = [0u8; 1600];
-    let mut made = 0u32;
     let mut deliveries = 0u32;
-    while made < k {
-        let waiting = note(s, n, &mut noted);
+    for made in 0..k {
+        let waiting = note(Stored { bytes: s, n }, &mut noted);
         if waiting == 0 {
-            break;
+            return Ran {
+                passes: made,
+                deliveries,
+            };
         }
         pass_noted(s, n, &noted);
         deliveries += waiting;
-        made += 1;
     }
     Ran {
-        passes: made,
-        deliveries: deliveries,
+        passes: k,
+        deliveries,
     }
 }

@@ -12,9 +12,9 @@ use Rattle.hop_laws.proofs.Tests.{tells_as, tells_same, tells_eq, tells_lt, tell
 or_none : (a b : ℕ) → eqb (bit_or a b) 0 ≡ eqb a 0 && eqb b 0
 or_none a b = tells_same (tells_as (λ e. (omega (arith, e, or_add_and a b, and_le_l a b, and_le_r a b), omega (arith, e, or_add_and a b, and_le_l a b, and_le_r a b))) (λ z. rw (z.0, z.1) (or_zero_l 0)) (tells_eq (bit_or a b) 0)) (tells_and (tells_eq a 0) (tells_eq b 0))
 
--- Two that are none are none together.
-pub both_none : (a b : ℕ) {x y : Bool} → eqb a 0 ≡ x → eqb b 0 ≡ y → eqb (bit_or a b) 0 ≡ x && y
-both_none a b e f = or_none a b ∙ rw (e, f) refl
+-- Three that are none are none together.
+pub three_none : (a b c : ℕ) {x y z : Bool} → eqb a 0 ≡ x → eqb b 0 ≡ y → eqb c 0 ≡ z → eqb (bit_or (bit_or a b) c) 0 ≡ (x && y) && z
+three_none a b c e f g = or_none (bit_or a b) c ∙ rw (or_none a b, e, f, g) refl
 
 pub xor_none : (x y : ℕ) → eqb (bit_xor x y) 0 ≡ eqb x y
 xor_none x y = tells_same (tells_as (λ e. omega (arith, e, xor_add_and x y, and_le_l x y, and_le_r x y)) (λ z. rw z (xor_self y)) (tells_eq (bit_xor x y) 0)) (tells_eq x y)

@@ -1,5 +1,5 @@
 -- A set of numbers in one number, bit v for v; and what is found out by it: whether the bytes of a row differ, and whether a full queue holds each destination with its distance. A buyer needs none of it.
-use Rattle.std.specs.Prelude.{Bool, ◌&&◌, List, ℕ, ◌-◌, ◌/◌, ◌%◌, ◌^◌, eqb}
+use Rattle.std.specs.Prelude.{Bool, ◌&&◌, List, ℕ, ◌-◌, ◌/◌, ◌%◌, ◌^◌, eqb, length}
 use Rattle.std.specs.Int.Bits.{bit_or}
 use Rattle.hop_rule.specs.Words.{loop, every}
 use Rattle.hop_rows.specs.Rows.{byte, all_below, none_is}
@@ -31,3 +31,9 @@ all_valued s n distances destinations values = every n (λ p. eqb (byte s values
 -- A full queue: destinations below n that differ, and each has its distance as its value.
 unfoldable pub full : List ℕ → ℕ → ℕ → ℕ → ℕ → Bool
 full s n distances destinations values = all_below s destinations n n && (differing s destinations n && all_valued s n distances destinations values)
+
+-- The same of three rows, each by itself; what is read as a distance may stand anywhere behind the first.
+unfoldable pub full_rows : List ℕ → List ℕ → List ℕ → Bool
+full_rows distances destinations values =
+    let n = length destinations in
+    all_below destinations 0 n n && (differing destinations 0 n && every n (λ p. eqb (byte values 0 p) (byte distances 0 (byte destinations 0 p))))

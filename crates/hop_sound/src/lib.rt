@@ -5,17 +5,12 @@ mod nodes;
 
 ghost use Rattle.std.specs.Prelude.{◌≡◌};
 ghost use Rattle.hop_rule.specs.Sound.{is_sound_as};
-ghost use Rattle.hop_cells.specs.Cells.{Room};
+
+use hop_cells::Stored;
 
 // Is the state of n nodes that the bytes hold sound? The first byte is not looked at.
-pub fn is_sound(s: &[u8], n: usize) -> bool
-    requires { Room n s.now }
-    ensures { result ≡ is_sound_as n s.now }
+pub fn is_sound(s: Stored) -> bool
+    ensures { result ≡ is_sound_as s.entry.n s.entry.bytes.now }
 {
-    for u in 0..n {
-        if !nodes::node_sound(s, n, u) {
-            return false;
-        }
-    }
-    true
+    (0..s.n).all(|u| nodes::node_sound(s, u))
 }

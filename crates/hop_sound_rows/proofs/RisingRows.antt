@@ -1,14 +1,16 @@
 -- A row that rises: its bytes differ, and the last is the greatest. Assumes nothing.
-use mathlib.Core.Path.{◌≡◌, refl, ap}
+use mathlib.Core.Path.{◌≡◌, ap, ◌∙◌}
 use mathlib.Core.Bool.{true, false}
 use mathlib.Core.List.{List}
 use Prim.Native.Nat.{ℕ, zero, suc, ◌+◌, ◌-◌, ◌≤◌, ◌<◌}
 use native.Mathlib.Decide.{ℕ_discrete}
 use native.Mathlib.Omega.{arith}
-use lib.ListN.{get_or}
+use lib.ListN.{length, get_or}
 use Rattle.hop_laws.proofs.Tests.{tells_lt, tells_every, tells_false}
-use Rattle.hop_rows.specs.Rows.{byte, all_below}
-use Rattle.hop_rows.proofs.RowTests.{tells_below}
+use Rattle.hop_rows.specs.Rows.{IsRow, byte, all_below}
+use Rattle.hop_rows.proofs.Every.{every_as}
+use Rattle.hop_rows.proofs.Parts.{byte_is}
+use Rattle.hop_rows.proofs.RowTests.{itself, tells_below}
 use Rattle.hop_seen.specs.Seen.{differing}
 use Rattle.hop_seen.proofs.Seen.{tells_differing}
 use Rattle.hop_sound_rows.specs.SoundRows.{rising}
@@ -38,12 +40,20 @@ module _ (s : List ℕ) (at m : ℕ) (e : rising s at (m - 1) ≡ true) where
   differs p l q h z = omega (arith, rises q p (omega arith) l)
 
   pub rising_differs : differing s at m ≡ true
-  rising_differs = (tells_differing (record { reads = λ i. refl }) m).if_so differs
+  rising_differs = (tells_differing (itself s at) m).if_so differs
 
   -- The last decides whether all are below n.
   module _ {n : ℕ} (some : 0 < m) where
     pub rising_over : n ≤ byte s at (m - 1) → all_below s at m n ≡ false
-    rising_over l = tells_false (tells_below (record { reads = λ i. refl }) m n) (λ h. omega (arith, h (m - 1) (omega arith)))
+    rising_over l = tells_false (tells_below (itself s at) m n) (λ h. omega (arith, h (m - 1) (omega arith)))
 
     pub rising_below : byte s at (m - 1) < n → all_below s at m n ≡ true
-    rising_below l = (tells_below (record { reads = λ i. refl }) m n).if_so (λ i h. omega (arith, rises i (m - 1) (omega arith) (omega arith)))
+    rising_below l = (tells_below (itself s at) m n).if_so (λ i h. omega (arith, rises i (m - 1) (omega arith) (omega arith)))
+
+-- A slice is tested as the buffer is at its place.
+pub rising_here : {s : List ℕ} {at k : ℕ} {r : List ℕ} → IsRow s at k r → rising r 0 (length r - 1) ≡ rising s at (k - 1)
+unfolding rising
+rising_here {s} {at} {k} {r} h = rw h.long (every_as (k - 1) (λ i l. rw (h.bytes i (omega arith), next i l)))
+  where
+    next : (i : ℕ) → i < k - 1 → byte r (0 + 1) i ≡ byte s (at + 1) i
+    next i l = byte_is r (0 + 1) i (0 + suc i) (omega arith) ∙ h.bytes (suc i) (omega arith) ∙ byte_is s at (suc i) (at + 1 + i) (omega arith)

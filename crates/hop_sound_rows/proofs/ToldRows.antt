@@ -1,26 +1,30 @@
 -- A row that values were written to, each at its destination: where a destination is not written the row is as it was, and where destinations differ each has its value. Assumes nothing.
-use mathlib.Core.Path.{◌≡◌, refl, sym, ap, subst, ◌∙◌}
+use mathlib.Core.Path.{◌≡◌, refl, sym, ap, ◌∙◌}
 use mathlib.Core.Logic.{◌≢◌}
-use mathlib.Core.Bool.{true, false}
 use mathlib.Core.List.{List}
 use Prim.Native.Nat.{ℕ, zero, suc, ◌+◌, ◌≤◌, ◌<◌}
-use native.Mathlib.Nat.{le_refl, le_antisymm}
+use native.Mathlib.Nat.{le_refl}
 use native.Mathlib.Numerals.{add-one}
 use native.Mathlib.Decide.{ℕ_discrete}
 use native.Mathlib.Omega.{arith}
 use lib.Dec.{eqb}
-use lib.ListN.{length, get_or, set, length-set}
+use lib.Pointwise.{pointwise}
+use lib.ListN.{length, get_or, take, set, length-set}
 use lib.Seq.{get_or-set_same, get_or-set_other}
-use borrow.Author.Tests.{eq-eqb, ne_eqb}
 use Rattle.hop_laws.proofs.Tests.{tells_eq, choose_so, choose_else}
-use Rattle.hop_rows.specs.Rows.{byte}
-use Rattle.hop_sound_rows.specs.SoundRows.{told, told_byte, Told}
+use Rattle.hop_rows.specs.Rows.{IsRow, byte}
+use Rattle.hop_rule.specs.Words.{every}
+use Rattle.hop_rows.proofs.Every.{every_as}
+use Rattle.hop_rows.proofs.Parts.{byte_of}
+use Rattle.hop_rows.proofs.Slices.{equal_every}
+use Rattle.std.proofs.lemmas.List.{get_or-take, length-take-le}
+use Rattle.hop_sound_rows.specs.SoundRows.{told, Told, all_told, rows_told}
 
 -- Only what the rows hold matters.
-pub told_as : {x x' a a' b b' : ℕ → ℕ} → ((i : ℕ) → x i ≡ x' i) → ((i : ℕ) → a i ≡ a' i) → ((i : ℕ) → b i ≡ b' i) → (k v : ℕ) → told x a b k v ≡ told x' a' b' k v
+pub told_as : (x x' a a' b b' : ℕ → ℕ) (k v : ℕ) → x v ≡ x' v → ((i : ℕ) → i < k → a i ≡ a' i) → ((i : ℕ) → i < k → b i ≡ b' i) → told x a b k v ≡ told x' a' b' k v
 unfolding told
-told_as ex ea eb zero v = ex v
-told_as {a = a} {b = b} ex ea eb (suc k) v = rw (ea k, eb k, told_as ex ea eb k v)
+told_as x x' a a' b b' zero v ex ea eb = ex
+told_as x x' a a' b b' (suc k) v ex ea eb = rw (ea k (le_refl _), eb k (le_refl _), told_as x x' a a' b b' k v ex (λ i l. ea i (omega arith)) (λ i l. eb i (omega arith)))
 
 module _ (x a b : ℕ → ℕ) where
   told_last : (k v : ℕ) → a k ≡ v → told x a b (suc k) v ≡ b k
@@ -62,26 +66,26 @@ module _ (x a b : ℕ → ℕ) where
 
 -- ---- the row, filled value by value
 
-pub told_none : {s : List ℕ} {n views destinations values : ℕ} {heard : List ℕ} → length heard ≡ 40 → ((v : ℕ) → v < n → get_or heard v 0 ≡ byte s views v) → Told s n views destinations values 0 heard
-unfolding told
-told_none e h = record { long = e; view = h }
+module _ {x a b : ℕ → ℕ} {n : ℕ} where
+  pub told_none : {heard : List ℕ} → length heard ≡ 40 → ((v : ℕ) → v < n → get_or heard v 0 ≡ x v) → Told x a b n 0 heard
+  unfolding told
+  told_none e h = record { long = e; view = h }
 
-pub told_more : {s : List ℕ} {n views destinations values k : ℕ} {heard : List ℕ} → Told s n views destinations values k heard
-    → {i : ℕ} → i ≡ byte s destinations k → i < 40 → {more : List ℕ} → more ≡ set heard i (byte s values k) → Told s n views destinations values (k + 1) more
-told_more {s} {n} {views} {destinations} {values} {k} {heard} h {i} e li z =
-    rw z (record { long = length-set heard i _ ∙ h.long; view = λ v l. rw (add-one k) (go v l (ℕ_discrete i v)) })
-  where
-    go : (v : ℕ) → v < n → Dec (i ≡ v) → get_or (set heard i (byte s values k)) v 0 ≡ told_byte s views destinations values (suc k) v
-    go v l (yes j) = rw (← j) (get_or-set_same heard i (byte s values k) 0 (omega (arith, h.long)) ∙ sym (told_last _ _ _ k i (sym e)))
-    go v l (no f) = get_or-set_other heard i v (byte s values k) 0 (λ j. f (sym j)) ∙ h.view v l ∙ sym (told_past _ _ _ k v (λ j. f (e ∙ j)))
+  pub told_more : {k : ℕ} {heard : List ℕ} → Told x a b n k heard → {i y : ℕ} → i ≡ a k → i < 40 → y ≡ b k → Told x a b n (k + 1) (set heard i y)
+  told_more {k} {heard} h {i} {y} e li f = record { long = length-set heard i _ ∙ h.long; view = λ v l. rw (add-one k) (go v l (ℕ_discrete i v)) }
+    where
+      go : (v : ℕ) → v < n → Dec (i ≡ v) → get_or (set heard i y) v 0 ≡ told x a b (suc k) v
+      go v l (yes j) = rw (← j) (get_or-set_same heard i y 0 (omega (arith, h.long)) ∙ f ∙ sym (told_last _ _ _ k i (sym e)))
+      go v l (no g) = get_or-set_other heard i v y 0 (λ j. g (sym j)) ∙ h.view v l ∙ sym (told_past _ _ _ k v (λ j. g (e ∙ j)))
 
-pub told_done : {s : List ℕ} {n views destinations values k m : ℕ} {heard : List ℕ} → Told s n views destinations values k heard → k ≤ m → m ≤ k → Told s n views destinations values m heard
-told_done {s} {n} {views} {destinations} {values} {heard = heard} h l l' = subst (λ (i : ℕ). Told s n views destinations values i heard) (le_antisymm l l') h
+-- Rows are told as the buffer is at their places.
+pub told_here : {s : List ℕ} {n k views distances destinations values : ℕ} {x d a b : List ℕ} → IsRow s views n x → IsRow s distances n d → IsRow s destinations k a → IsRow s values k b → rows_told x d a b ≡ all_told s n views distances destinations values k
+unfolding rows_told all_told
+told_here {s} {n} {k} {views} {distances} {destinations} {values} {x} {d} {a} {b} hx hd ha hb =
+    rw (hx.long, ha.long) (every_as n (λ v l. rw (hd.bytes v l, told_as (byte x 0) (byte s views) (byte a 0) (byte s destinations) (byte b 0) (byte s values) k v (hx.bytes v l) ha.bytes hb.bytes)))
 
--- What the row shows of a view.
-module _ {s : List ℕ} {n views destinations values k : ℕ} {heard : List ℕ} (h : Told s n views destinations values k heard) {v d : ℕ} (l : v < n) where
-  pub told_equal : get_or heard v 0 ≡ d → eqb (told_byte s views destinations values k v) d ≡ true
-  told_equal e = eq-eqb _ d (sym (h.view v l) ∙ e)
-
-  pub told_unequal : get_or heard v 0 ≢ d → eqb (told_byte s views destinations values k v) d ≡ false
-  told_unequal f = ne_eqb _ d (λ e. f (h.view v l ∙ e))
+-- The row of 40 bytes as the library compares it.
+pub told_equal : {x a b : ℕ → ℕ} {n k : ℕ} {heard : List ℕ} (d : List ℕ) → Told x a b n k heard → n ≤ 40 → length d ≡ n → pointwise eqb (take n heard) d ≡ every n (λ v. eqb (told x a b k v) (byte d 0 v))
+told_equal {n = n} {heard = heard} d h l e =
+    let long : length (take n heard) ≡ n = length-take-le n heard (omega (arith, h.long)) in
+    equal_every (take n heard) d (omega arith) ∙ rw long (every_as n (λ v m. rw (get_or-take n heard v 0 m, h.view v m, byte_of d v)))

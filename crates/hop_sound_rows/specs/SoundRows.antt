@@ -23,6 +23,13 @@ allows s n w views distances downstreams v = leb (least_view n w (byte s distanc
 unfoldable pub all_allow : List ℕ → ℕ → ℕ → ℕ → ℕ → ℕ → Bool
 all_allow s n w views distances downstreams = every n (allows s n w views distances downstreams)
 
+-- The same of three rows, each by itself.
+abbrev pub row_allows : ℕ → ℕ → List ℕ → List ℕ → List ℕ → ℕ → Bool
+row_allows n w views distances downstreams v = leb (least_view n w (byte distances 0 v) (byte downstreams 0 v)) (byte views 0 v)
+
+unfoldable pub rows_allow : ℕ → ℕ → List ℕ → List ℕ → List ℕ → Bool
+rows_allow n w views distances downstreams = every n (row_allows n w views distances downstreams)
+
 -- A row x after the values b 0, b 1, .. b (k − 1) are written to it, each at its destination a 0, a 1, .. a (k − 1).
 unfoldable pub told : (ℕ → ℕ) → (ℕ → ℕ) → (ℕ → ℕ) → ℕ → ℕ → ℕ
 told x a b zero v = x v
@@ -32,11 +39,15 @@ told x a b (suc k) v = if eqb (a k) v then b k else told x a b k v
 abbrev pub told_byte : List ℕ → ℕ → ℕ → ℕ → ℕ → ℕ → ℕ
 told_byte s views destinations values k v = told (byte s views) (byte s destinations) (byte s values) k v
 
--- A row of 40 bytes holds n of these views.
-pub record Told (s : List ℕ) (n views destinations values k : ℕ) (heard : List ℕ) : Type 0 where
+-- A row of 40 bytes holds the first n bytes of the row x, as they are once k values are written.
+pub record Told (x a b : ℕ → ℕ) (n k : ℕ) (heard : List ℕ) : Type 0 where
   pub long : length heard ≡ 40
-  pub view : (v : ℕ) → v < n → get_or heard v 0 ≡ told_byte s views destinations values k v
+  pub view : (v : ℕ) → v < n → get_or heard v 0 ≡ told x a b k v
 
 -- Each of these n views is the distance.
 unfoldable pub all_told : List ℕ → ℕ → ℕ → ℕ → ℕ → ℕ → ℕ → Bool
 all_told s n views distances destinations values k = every n (λ v. eqb (told_byte s views destinations values k v) (byte s distances v))
+
+-- The same of four rows, each by itself.
+unfoldable pub rows_told : List ℕ → List ℕ → List ℕ → List ℕ → Bool
+rows_told views distances destinations values = every (length views) (λ v. eqb (told (byte views 0) (byte destinations 0) (byte values 0) (length destinations) v) (byte distances 0 v))

@@ -14,7 +14,7 @@ use Rattle.hop_laws.proofs.Words.{loop_keeps, loop_same}
 use Rattle.hop_cells.specs.Cells.{cells, get, get2, put3}
 use Rattle.hop_cells.proofs.Places.{rank, cell2_lt, cell3_lt, get_put_apart}
 use Rattle.hop_queues.specs.Queues.{held, waits_at, join, send}
-use Rattle.hop_steps.specs.declared.Best.{Best}
+use Rattle.hop_cells.specs.declared.Way.{Way}
 use Rattle.hop_steps.specs.Steps.{up, nearer, best, store, tell_one, tell, recompute, renew}
 
 -- A block that is neither of routes nor of queues.
@@ -26,7 +26,7 @@ module _ (n : ℕ) (t : Table) (other : (t' : Table) → rank t' ≢ 0 → rank 
   either true s x y h k = h refl
   either false s x y h k = k refl
 
-  store_kept : (u v : ℕ) (b : Best) (s : List ℕ) → u < n → v < n → Kept s (store n u v b s)
+  store_kept : (u v : ℕ) (b : Way) (s : List ℕ) → u < n → v < n → Kept s (store n u v b s)
   unfolding store
   store_kept u v b s lu lv i l =
       get_put_apart n t Downstreams i _ _ _ (other Downstreams (omega arith) (omega arith)) l (cell2_lt lu lv)
@@ -52,7 +52,7 @@ module _ (n : ℕ) (t : Table) (other : (t' : Table) → rank t' ≢ 0 → rank 
   unfolding tell tell_one
   tell_kept u v d s lu = loop_keeps (Kept s) n _ s (λ i l. refl) (λ w x lw h. either (up n u w x && up n w u x) s (send n u w v d x) x (λ e i l. send_kept u w v d x lu lw i l ∙ h i l) (λ e. h))
 
-  renew_kept : (u v : ℕ) (b : Best) (s : List ℕ) → u < n → v < n → Kept s (renew n u v b s)
+  renew_kept : (u v : ℕ) (b : Way) (s : List ℕ) → u < n → v < n → Kept s (renew n u v b s)
   unfolding renew
   renew_kept u v b s lu lv =
       let stored = store n u v b s in
@@ -79,6 +79,6 @@ module _ (n u : ℕ) (lu : u < n) where
   best_stays v k s lv lk = loop_keeps (λ (x : List ℕ). best n u v x ≡ best n u v s) k _ s refl (λ i x l e. best_kept v i x lv (omega arith) ∙ e)
 
   -- So what was found before all of them serves each.
-  pub renewed : (v : ℕ) (b : Best) (s₀ s : List ℕ) {t : List ℕ} → v < n → s ≡ loop v (recompute n u) s₀ → b ≡ best n u v s₀ → t ≡ renew n u v b s → t ≡ recompute n u v s
+  pub renewed : (v : ℕ) (b : Way) (s₀ s : List ℕ) {t : List ℕ} → v < n → s ≡ loop v (recompute n u) s₀ → b ≡ best n u v s₀ → t ≡ renew n u v b s → t ≡ recompute n u v s
   unfolding recompute renew
-  renewed v b s₀ s lv e h r = r ∙ ap (λ (x : Best). renew n u v x s) (h ∙ sym (best_stays v v s₀ lv (omega arith)) ∙ ap (best n u v) (sym e))
+  renewed v b s₀ s lv e h r = r ∙ ap (λ (x : Way). renew n u v x s) (h ∙ sym (best_stays v v s₀ lv (omega arith)) ∙ ap (best n u v) (sym e))

@@ -14,14 +14,14 @@ use borrow.Author.Count.{below_more}
 use borrow.Author.Tests.{lt-ltb, le-ltb}
 use Rattle.hop_rule.specs.declared.Table.TheVariants.{Views}
 use Rattle.hop_cells.specs.Cells.{get3}
-use Rattle.hop_steps.specs.declared.Best.{Best}
+use Rattle.hop_cells.specs.declared.Way.{Way}
 use Rattle.hop_steps.specs.Steps.{up, nearer, choose, lesser, giver, Looked}
 
 -- One view beside the least so far: as the two bytes go by it, and as `nearer` does.
 module _ (d c w x : ℕ) where
   abbrev Chosen : Type 0
   Chosen =
-      (◌≡◌ {A = Best} (record { distance = choose d c d c + 1; downstream = choose d c w x }) (if ltb (d + 1) (c + 1) then record { distance = d + 1; downstream = w } else record { distance = c + 1; downstream = x }))
+      (◌≡◌ {A = Way} (record { distance = choose d c d c + 1; downstream = choose d c w x }) (if ltb (d + 1) (c + 1) then record { distance = d + 1; downstream = w } else record { distance = c + 1; downstream = x }))
       × (choose d c d c ≤ c)
 
   chosen : Chosen

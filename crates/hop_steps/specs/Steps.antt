@@ -6,24 +6,24 @@ use Rattle.hop_rule.specs.declared.Table.TheVariants.{Links, Distances, Downstre
 use Rattle.hop_rule.specs.Words.{loop}
 use Rattle.hop_cells.specs.Cells.{cells, put, get2, get3, put2, put3, fill}
 use Rattle.hop_queues.specs.Queues.{held, send, take_first, offer_all, empty}
-use Rattle.hop_steps.specs.declared.Best.{Best}
+use Rattle.hop_cells.specs.declared.Way.{Way}
 
 -- The link is up at u's end.
 abbrev pub up : ℕ → ℕ → ℕ → List ℕ → Bool
 up n u w s = eqb (get2 n Links u w s) 1
 
 -- Neighbour w is looked at, after those below it, which gave b.
-unfoldable pub nearer : ℕ → ℕ → ℕ → List ℕ → ℕ → Best → Best
+unfoldable pub nearer : ℕ → ℕ → ℕ → List ℕ → ℕ → Way → Way
 nearer n u v s w b =
     let d = get3 n Views u w v s + 1 in
     if up n u w s && ltb d b.distance then record { distance = d; downstream = w } else b
 
 -- The smaller of n and 1 + the least view of v over u's up links, and the lowest neighbour that gives it, or 255.
-unfoldable pub best : ℕ → ℕ → ℕ → List ℕ → Best
+unfoldable pub best : ℕ → ℕ → ℕ → List ℕ → Way
 best n u v s = loop n (nearer n u v s) (record { distance = n; downstream = 255 })
 
 -- The distance and the downstream of v at u become those of b.
-unfoldable pub store : ℕ → ℕ → ℕ → Best → List ℕ → List ℕ
+unfoldable pub store : ℕ → ℕ → ℕ → Way → List ℕ → List ℕ
 store n u v b s = put2 n Downstreams u v b.downstream (put2 n Distances u v b.distance s)
 
 -- The entry (v, d) is sent from u to w, if that link is up at both ends; and to each neighbour of u.
@@ -34,7 +34,7 @@ unfoldable pub tell : ℕ → ℕ → ℕ → ℕ → List ℕ → List ℕ
 tell n u v d s = loop n (tell_one n u v d) s
 
 -- What is found for v at u is stored. If the distance changed, it is told.
-unfoldable pub renew : ℕ → ℕ → ℕ → Best → List ℕ → List ℕ
+unfoldable pub renew : ℕ → ℕ → ℕ → Way → List ℕ → List ℕ
 renew n u v b s =
     let stored = store n u v b s in
     if eqb u v then s else (if eqb b.distance (get2 n Distances u v s) then stored else tell n u v b.distance stored)
@@ -44,7 +44,7 @@ unfoldable pub recompute : ℕ → ℕ → ℕ → List ℕ → List ℕ
 recompute n u v s = renew n u v (best n u v s) s
 
 -- The best of all destinations side by side: the least view of v so far stands in one row, and the neighbour that gave it in the other.
-abbrev pub at : List ℕ → List ℕ → ℕ → Best
+abbrev pub at : List ℕ → List ℕ → ℕ → Way
 at views from v = record { distance = get_or views v 0 + 1; downstream = get_or from v 0 }
 
 abbrev pub choose : ℕ → ℕ → ℕ → ℕ → ℕ

@@ -1,4 +1,5 @@
 // The events on the bytes of a stored state: recompute, deliver, link up, one end's notice that a link is lost, link down by notices; and a fresh state.
+// What `as` narrows here is proved to fit; `try_from` would add an error that cannot be.
 #![tactic(auto)]
 
 ghost use Rattle.std.specs.Prelude.{◌≡◌, ℕ, ◌+◌, ◌*◌, ◌<◌, ◌≤◌, length, get_or, set};
@@ -6,26 +7,20 @@ ghost use Rattle.hop_rule.specs.declared.Table.TheVariants.{Views};
 ghost use Rattle.hop_cells.specs.Cells.{Room, cells, put3};
 ghost use Rattle.hop_steps.specs.Steps as step;
 
-use hop_cells::{cube, fill, get, get2, get3, least, pair, put, put2, square, start, triple, wide};
+use hop_cells::{Stored, Way, cube, fill, fill_cells, pair, put2, square, start, triple};
 use hop_queues::{empty, held, offer_all, send, take_first};
 use hop_rule::Table;
 
-// What recompute finds for a destination.
-#[derive(Clone, Copy)]
-pub struct Best {
-    pub distance: u8,
-    pub downstream: u8,
-}
-
-// Neighbour w is looked at, after those below it, which gave b.
-fn nearer(s: &[u8], n: usize, u: usize, v: usize, w: usize, b: Best) -> Best
-    requires { Room n s.now × (u < n) × (v < n) × (w < n) }
-    ensures { result ≡ step.nearer n u v s.now w b }
+// Neighbour w is looked at for what recompute finds for a destination, after those below it, which gave b.
+#[tactic(auto, unfolding(crate::specs::Steps::nearer))]
+fn nearer(s: Stored, u: usize, v: usize, w: usize, b: Way) -> Way
+    requires { (u < s.n) × (v < s.n) × (w < s.n) }
+    ensures { result ≡ step.nearer s.entry.n u v s.entry.bytes.now w b }
 {
-    if get2(s, n, Table::Links, u, w) == 1 {
-        let d = get3(s, n, Table::Views, u, w, v) + 1;
-        if d < wide(b.distance) {
-            return Best {
+    if s.get2(Table::Links, u, w) == 1 {
+        let d = s.get3(Table::Views, u, w, v) + 1;
+        if d < usize::from(b.distance) {
+            return Way {
                 distance: d as u8,
                 downstream: w as u8,
             };
@@ -35,22 +30,24 @@ fn nearer(s: &[u8], n: usize, u: usize, v: usize, w: usize, b: Best) -> Best
 }
 
 // The least distance of v at u, and the lowest neighbour that gives it.
-fn find_best(s: &[u8], n: usize, u: usize, v: usize) -> Best
-    requires { Room n s.now × (u < n) × (v < n) }
-    ensures { result ≡ step.best n u v s.now }
+#[tactic(auto, unfolding(crate::specs::Steps::best), using(hop_laws::proofs::Words::loop_none, hop_laws::proofs::Words::loop_turn, hop_cells::proofs::Loops::loop_end))]
+fn find_best(s: Stored, u: usize, v: usize) -> Way
+    requires { (u < s.n) × (v < s.n) }
+    ensures { result ≡ step.best s.entry.n u v s.entry.bytes.now }
 {
-    let mut b = Best {
-        distance: n as u8,
+    let mut b = Way {
+        distance: s.n as u8,
         downstream: 255,
     };
-    for w in 0..n {
-        b = nearer(s, n, u, v, w, b);
+    for w in 0..s.n {
+        b = nearer(s, u, v, w, b);
     }
     b
 }
 
 // The distance and the downstream of v at u become those of b.
-fn store(s: &mut [u8], n: usize, u: usize, v: usize, b: Best)
+#[tactic(auto, unfolding(crate::specs::Steps::store))]
+fn store(s: &mut [u8], n: usize, u: usize, v: usize, b: Way)
     requires { Room n s.old × (u < n) × (v < n) }
     ensures { s.new ≡ step.store n u v b s.old }
 {
@@ -59,16 +56,19 @@ fn store(s: &mut [u8], n: usize, u: usize, v: usize, b: Best)
 }
 
 // The entry (v, d) is sent from u to w, if that link is up at both ends: towards an end that is down it is dropped.
+#[tactic(auto, unfolding(crate::specs::Steps::tell_one))]
 fn tell_one(s: &mut [u8], n: usize, u: usize, v: usize, d: u8, w: usize)
     requires { Room n s.old × (u < n) × (v < n) × (w < n) }
     ensures { s.new ≡ step.tell_one n u v d w s.old }
 {
-    if get2(s, n, Table::Links, u, w) == 1 && get2(s, n, Table::Links, w, u) == 1 {
+    let state = Stored { bytes: s, n };
+    if state.get2(Table::Links, u, w) == 1 && state.get2(Table::Links, w, u) == 1 {
         send(s, n, u, w, v, d);
     }
 }
 
 // And to each neighbour of u.
+#[tactic(auto, unfolding(crate::specs::Steps::tell), using(hop_laws::proofs::Words::loop_none, hop_laws::proofs::Words::loop_turn, hop_cells::proofs::Loops::loop_end))]
 fn tell(s: &mut [u8], n: usize, u: usize, v: usize, d: u8)
     requires { Room n s.old × (u < n) × (v < n) }
     ensures { s.new ≡ step.tell n u v d s.old }
@@ -79,21 +79,23 @@ fn tell(s: &mut [u8], n: usize, u: usize, v: usize, d: u8)
 }
 
 // What is found for v at u is stored. If the distance changed, it is told.
-fn renew(s: &mut [u8], n: usize, u: usize, v: usize, b: Best)
+#[tactic(auto, unfolding(crate::specs::Steps::renew))]
+fn renew(s: &mut [u8], n: usize, u: usize, v: usize, b: Way)
     requires { Room n s.old × (u < n) × (v < n) }
     ensures { s.new ≡ step.renew n u v b s.old }
 {
     if u == v {
         return;
     }
-    let old = get2(s, n, Table::Distances, u, v);
+    let old = Stored { bytes: s, n }.get2(Table::Distances, u, v);
     store(s, n, u, v, b);
-    if wide(b.distance) != old {
+    if usize::from(b.distance) != old {
         tell(s, n, u, v, b.distance);
     }
 }
 
 // Recompute of v at u.
+#[tactic(auto, unfolding(crate::specs::Steps::recompute, crate::specs::Steps::renew))]
 pub fn recompute(s: &mut [u8], n: usize, u: usize, v: usize)
     requires { Room n s.old × (u < n) × (v < n) }
     ensures { s.new ≡ step.recompute n u v s.old }
@@ -101,7 +103,7 @@ pub fn recompute(s: &mut [u8], n: usize, u: usize, v: usize)
     if u == v {
         return;
     }
-    let b = find_best(s, n, u, v);
+    let b = find_best(Stored { bytes: s, n }, u, v);
     renew(s, n, u, v, b);
 }
 
@@ -114,11 +116,12 @@ fn settle(s: &mut [u8], n: usize, u: usize, v: usize, w: usize, d: usize)
     if u == v {
         return;
     }
-    let old = get2(s, n, Table::Distances, u, v);
-    let x = get2(s, n, Table::Downstreams, u, v);
+    let state = Stored { bytes: s, n };
+    let old = state.get2(Table::Distances, u, v);
+    let x = state.get2(Table::Downstreams, u, v);
     let near = d + 1;
     if near < old {
-        let b = Best {
+        let b = Way {
             distance: near as u8,
             downstream: w as u8,
         };
@@ -153,18 +156,21 @@ fn hear(s: &mut [u8], n: usize, u: usize, w: usize, v: usize, d: u8)
 }
 
 // The entry at place p of the queue from w to u is heard, and u settles its destination.
+#[tactic(auto, unfolding(crate::specs::Steps::hear_at))]
 fn hear_at(s: &mut [u8], n: usize, w: usize, u: usize, p: usize)
     requires { Room n s.old × (w < n) × (u < n) × (p < n) }
     ensures { s.new ≡ step.hear_at n w u p s.old }
 {
-    let v = get3(s, n, Table::Destinations, w, u, p);
-    let d = get3(s, n, Table::Values, w, u, p);
+    let state = Stored { bytes: s, n };
+    let v = state.get3(Table::Destinations, w, u, p);
+    let d = state.get3(Table::Values, w, u, p);
     if v < n {
         hear(s, n, u, w, v, d as u8);
         settle(s, n, u, v, w, d);
     }
 }
 
+#[tactic(auto, unfolding(crate::specs::Steps::hear_first), using(hop_laws::proofs::Words::loop_none, hop_laws::proofs::Words::loop_turn, hop_cells::proofs::Loops::loop_end))]
 fn hear_first(s: &mut [u8], n: usize, w: usize, u: usize, k: usize)
     requires { Room n s.old × (w < n) × (u < n) × (k ≤ n) }
     ensures { s.new ≡ step.hear_first n w u k s.old }
@@ -175,6 +181,7 @@ fn hear_first(s: &mut [u8], n: usize, w: usize, u: usize, k: usize)
 }
 
 // k deliveries, or as many as wait: the entries are heard where they stand, and then leave together.
+#[tactic(auto, unfolding(crate::specs::Steps::drain))]
 pub fn drain(s: &mut [u8], n: usize, w: usize, u: usize, k: usize)
     requires { Room n s.old × (w < n) × (u < n) }
     ensures { s.new ≡ step.drain n w u k s.old }
@@ -182,13 +189,14 @@ pub fn drain(s: &mut [u8], n: usize, w: usize, u: usize, k: usize)
     if k == 0 {
         return;
     }
-    let m = held(s, n, w, u);
-    let j = least(k, m);
+    let m = held(Stored { bytes: s, n }, w, u);
+    let j = k.min(m);
     hear_first(s, n, w, u, j);
     take_first(s, n, w, u, j, m - j);
 }
 
 // The head entry of the queue from w to u leaves, is heard, and u settles its destination.
+#[tactic(auto, unfolding(crate::specs::Steps::deliver))]
 pub fn deliver(s: &mut [u8], n: usize, w: usize, u: usize)
     requires { Room n s.old × (w < n) × (u < n) }
     ensures { s.new ≡ step.deliver n w u s.old }
@@ -197,6 +205,7 @@ pub fn deliver(s: &mut [u8], n: usize, w: usize, u: usize)
 }
 
 // Both ends are up, and each offers all that it has to the other.
+#[tactic(auto, unfolding(crate::specs::Steps::link_up))]
 pub fn link_up(s: &mut [u8], n: usize, a: usize, b: usize)
     requires { Room n s.old × (a < n) × (b < n) }
     ensures { s.new ≡ step.link_up n a b s.old }
@@ -215,11 +224,11 @@ fn choose(d: u8, c: u8, a: u8, b: u8) -> u8
 }
 
 // Neighbour w is looked at for v: `views` has the least view so far, and `from` the neighbour that gave it.
-fn nearer_at(s: &[u8], n: usize, u: usize, w: usize, v: usize, views: &mut [u8], from: &mut [u8])
-    requires { Room n s.now × (u < n) × (w < n) × (v < n) × (n ≤ length views.old) × (n ≤ length from.old) }
-    ensures { (views.new ≡ step.lesser n u w v s.now views.old) × (from.new ≡ step.giver n u w v s.now views.old from.old) }
+fn nearer_at(s: Stored, u: usize, w: usize, v: usize, views: &mut [u8], from: &mut [u8])
+    requires { (u < s.n) × (w < s.n) × (v < s.n) × (s.n ≤ length views.old) × (s.n ≤ length from.old) }
+    ensures { (views.new ≡ step.lesser s.entry.n u w v s.entry.bytes.now views.old) × (from.new ≡ step.giver s.entry.n u w v s.entry.bytes.now views.old from.old) }
 {
-    let d = get(s, n, Table::Views, triple(n, u, w, v));
+    let d = s.get(Table::Views, triple(s.n, u, w, v));
     let c = views[v];
     let x = from[v];
     views[v] = choose(d, c, d, c);
@@ -227,38 +236,39 @@ fn nearer_at(s: &[u8], n: usize, u: usize, w: usize, v: usize, views: &mut [u8],
 }
 
 // And for all destinations, if u's end of the link is up: along a row of views, in a loop that compiles to vector instructions.
-fn nearer_row(s: &[u8], n: usize, u: usize, w: usize, views: &mut [u8], from: &mut [u8])
-    requires { Room n s.now × (u < n) × (w < n) × (n ≤ length views.old) × (n ≤ length from.old) }
-    ensures { (v : ℕ) → v < n → step.Looked n u w s.now views.old from.old views.new from.new v }
+fn nearer_row(s: Stored, u: usize, w: usize, views: &mut [u8], from: &mut [u8])
+    requires { (u < s.n) × (w < s.n) × (s.n ≤ length views.old) × (s.n ≤ length from.old) }
+    ensures { (v : ℕ) → v < s.entry.n → step.Looked s.entry.n u w s.entry.bytes.now views.old from.old views.new from.new v }
 {
-    if get2(s, n, Table::Links, u, w) != 1 {
+    if s.get2(Table::Links, u, w) != 1 {
         return;
     }
-    for v in 0..n {
-        nearer_at(s, n, u, w, v, views, from);
+    for v in 0..s.n {
+        nearer_at(s, u, w, v, views, from);
     }
 }
 
 // The best for every destination.
-fn find_all(s: &[u8], n: usize, u: usize, views: &mut [u8], from: &mut [u8])
-    requires { Room n s.now × (u < n) × (n ≤ length views.old) × (n ≤ length from.old) × ((v : ℕ) → v < n → (get_or views.old v 0 + 1 ≡ n) × (get_or from.old v 0 ≡ 255)) }
-    ensures { (v : ℕ) → v < n → (step.at views.new from.new v ≡ step.best n u v s.now) × (get_or views.new v 0 < n) }
+fn find_all(s: Stored, u: usize, views: &mut [u8], from: &mut [u8])
+    requires { (u < s.n) × (s.n ≤ length views.old) × (s.n ≤ length from.old) × ((v : ℕ) → v < s.n → (get_or views.old v 0 + 1 ≡ s.n) × (get_or from.old v 0 ≡ 255)) }
+    ensures { (v : ℕ) → v < s.entry.n → (step.at views.new from.new v ≡ step.best s.entry.n u v s.entry.bytes.now) × (get_or views.new v 0 < s.entry.n) }
 {
-    for w in 0..n {
-        nearer_row(s, n, u, w, views, from);
+    for w in 0..s.n {
+        nearer_row(s, u, w, views, from);
     }
 }
 
 // u recomputes every destination, in ascending order. What is found for one does not depend on what is stored and told of another.
+#[tactic(auto, unfolding(crate::specs::Steps::recompute_all), using(hop_laws::proofs::Words::loop_none, hop_cells::proofs::Loops::loop_end))]
 fn recompute_all(s: &mut [u8], n: usize, u: usize)
     requires { Room n s.old × (u < n) }
     ensures { s.new ≡ step.recompute_all n u s.old }
 {
     let mut views = [(n - 1) as u8; 40];
     let mut from = [255u8; 40];
-    find_all(s, n, u, &mut views, &mut from);
+    find_all(Stored { bytes: s, n }, u, &mut views, &mut from);
     for v in 0..n {
-        let b = Best {
+        let b = Way {
             distance: views[v] + 1,
             downstream: from[v],
         };
@@ -267,6 +277,7 @@ fn recompute_all(s: &mut [u8], n: usize, u: usize)
 }
 
 // a notices that its link to b is lost, the first half: a's end is down, a's views from b are n, and both queues are empty. b's end and b's views stay.
+#[tactic(auto, unfolding(crate::specs::Steps::lose))]
 fn lose(s: &mut [u8], n: usize, a: usize, b: usize)
     requires { Room n s.old × (a < n) × (b < n) }
     ensures { s.new ≡ step.lose n a b s.old }
@@ -278,6 +289,7 @@ fn lose(s: &mut [u8], n: usize, a: usize, b: usize)
 }
 
 // And a recomputes every destination.
+#[tactic(auto, unfolding(crate::specs::Steps::notice))]
 pub fn notice(s: &mut [u8], n: usize, a: usize, b: usize)
     requires { Room n s.old × (a < n) × (b < n) }
     ensures { s.new ≡ step.notice n a b s.old }
@@ -287,16 +299,19 @@ pub fn notice(s: &mut [u8], n: usize, a: usize, b: usize)
 }
 
 // The notice of a, if it is missing.
+#[tactic(auto, unfolding(crate::specs::Steps::missing))]
 fn missing(s: &mut [u8], n: usize, a: usize, b: usize)
     requires { Room n s.old × (a < n) × (b < n) }
     ensures { s.new ≡ step.missing n a b s.old }
 {
-    if get2(s, n, Table::Links, a, b) == 1 {
+    let state = Stored { bytes: s, n };
+    if state.get2(Table::Links, a, b) == 1 {
         notice(s, n, a, b);
     }
 }
 
 // Whatever notices are missing, the lower-numbered end first.
+#[tactic(auto, unfolding(crate::specs::Steps::link_down))]
 pub fn link_down(s: &mut [u8], n: usize, a: usize, b: usize)
     requires { Room n s.old × (a < n) × (b < n) }
     ensures { s.new ≡ step.link_down n a b s.old }
@@ -310,50 +325,40 @@ pub fn link_down(s: &mut [u8], n: usize, a: usize, b: usize)
     }
 }
 
-// Every one of the k bytes of a block becomes x: long runs are written fastest.
-fn fill_block(s: &mut [u8], n: usize, t: Table, k: usize, x: u8)
-    requires { Room n s.old × (k ≡ cells n t) }
-    ensures { s.new ≡ step.fill_block n t x s.old }
+// The bytes of a block.
+fn cells(n: usize, t: Table) -> usize
+    requires { n ≤ 40 }
+    ensures { result ≡ cells n t }
 {
-    for i in 0..k {
-        put(s, n, t, i, x);
+    match t {
+        Table::Views | Table::Destinations | Table::Values => cube(n),
+        _ => square(n),
     }
 }
 
-// The blocks of n², and those of n³, of a state in which no node has any, not even itself.
-fn fill_squares(s: &mut [u8], n: usize)
+// Every byte of a block becomes x.
+#[tactic(auto, unfolding(crate::specs::Steps::fill_block, hop_cells::specs::Cells::fill_cells))]
+fn fill_block(s: &mut [u8], n: usize, t: Table, x: u8)
     requires { Room n s.old }
-    ensures { s.new ≡ step.fill_squares n s.old }
+    ensures { s.new ≡ step.fill_block n t x s.old }
 {
-    let k = square(n);
-    fill_block(s, n, Table::Links, k, 0);
-    fill_block(s, n, Table::Distances, k, n as u8);
-    fill_block(s, n, Table::Downstreams, k, 255);
-    fill_block(s, n, Table::Lengths, k, 0);
-}
-
-fn fill_cubes(s: &mut [u8], n: usize)
-    requires { Room n s.old }
-    ensures { s.new ≡ step.fill_cubes n s.old }
-{
-    let k = cube(n);
-    fill_block(s, n, Table::Views, k, n as u8);
-    fill_block(s, n, Table::Destinations, k, 0);
-    fill_block(s, n, Table::Values, k, 0);
+    fill_cells(s, n, t, 0, cells(n, t), x);
 }
 
 // u has itself, at distance 0; and so has every node.
+#[tactic(auto, unfolding(crate::specs::Steps::own_route))]
 fn own_route(s: &mut [u8], n: usize, u: usize)
     requires { Room n s.old × (u < n) }
     ensures { s.new ≡ step.own_route n u s.old }
 {
-    let b = Best {
+    let b = Way {
         distance: 0,
         downstream: u as u8,
     };
     store(s, n, u, u, b);
 }
 
+#[tactic(auto, unfolding(crate::specs::Steps::own_routes), using(hop_laws::proofs::Words::loop_none, hop_laws::proofs::Words::loop_turn, hop_cells::proofs::Loops::loop_end))]
 fn own_routes(s: &mut [u8], n: usize)
     requires { Room n s.old }
     ensures { s.new ≡ step.own_routes n s.old }
@@ -364,12 +369,18 @@ fn own_routes(s: &mut [u8], n: usize)
 }
 
 // A fresh state of n nodes. No byte is read.
+#[tactic(auto, unfolding(hop_rule::specs::Stored::size, crate::specs::Steps::make, crate::specs::Steps::fill_squares, crate::specs::Steps::fill_cubes))]
 pub fn make(s: &mut [u8], n: usize)
     requires { Room n s.old }
     ensures { s.new ≡ step.make n s.old }
 {
     s[0] = n as u8;
-    fill_squares(s, n);
-    fill_cubes(s, n);
+    fill_block(s, n, Table::Links, 0);
+    fill_block(s, n, Table::Distances, n as u8);
+    fill_block(s, n, Table::Downstreams, 255);
+    fill_block(s, n, Table::Lengths, 0);
+    fill_block(s, n, Table::Views, n as u8);
+    fill_block(s, n, Table::Destinations, 0);
+    fill_block(s, n, Table::Values, 0);
     own_routes(s, n);
 }

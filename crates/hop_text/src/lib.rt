@@ -1,110 +1,106 @@
-// The program's lines as text, written into a lent buffer from a place on. The answer is the place behind the text, also where the buffer ends before it.
+// The program's lines as text, written on a page: a lent buffer, from a place on. The place after a line is the one behind its text, also where the buffer ends before it.
 #![tactic(auto)]
 
-ghost use Rattle.std.specs.Prelude.{[], ◌∷◌};
+ghost use Rattle.std.specs.Prelude.{◌≡◌, [], ◌∷◌};
 ghost use Rattle.hop_text.specs.Text.{digits, number, header, event_line, downstream_end, route_line};
-ghost use Rattle.hop_text.specs.Writing.{Ends, Wrote};
+ghost use Rattle.hop_text.specs.Writing.{Ends, Puts};
 
-// One byte, if the buffer has that place.
-fn put_byte(out: &mut [u8], at: usize, b: u8) -> usize
-    requires { Ends (b ∷ []) at }
-    ensures { Wrote (b ∷ []) out.old at out.new result }
-{
-    let next = at + 1;
-    if at < out.len() {
-        out[at] = b;
+// A lent buffer, and the place of the next byte.
+#[derive(Drop)]
+pub struct Page<'a> {
+    pub out: &'a mut [u8],
+    pub at: usize,
+}
+
+impl<'a> Page<'a> {
+    // A page that begins where the buffer does.
+    pub fn new(out: &'a mut [u8]) -> Page<'a>
+        ensures same_buffer { result.out.ghost_name ≡ out.entry.ghost_name }
+        ensures bytes { result.out.now ≡ out.old }
+        ensures place { result.at ≡ 0 }
+    {
+        Page { out, at: 0 }
     }
-    next
-}
 
-// A text as it stands.
-fn put_text(out: &mut [u8], at: usize, text: &[u8]) -> usize
-    requires { Ends text.now at }
-    ensures { Wrote text.now out.old at out.new result }
-{
-    let mut next = at;
-    let mut i = 0;
-    while i < text.len() {
-        next = put_byte(out, next, text[i]);
-        i += 1;
+    // One byte, if the buffer has that place.
+    fn put_byte(&mut self, b: u8)
+        requires { Ends (b ∷ []) self.old.at }
+        ensures { Puts (b ∷ []) self.old self.new }
+    {
+        if self.at < self.out.len() {
+            self.out[self.at] = b;
+        }
+        self.at += 1;
     }
-    next
-}
 
-// The last k digits of x: those before the last first, by the same function, with k falling.
-fn put_digits(out: &mut [u8], at: usize, k: usize, x: usize) -> usize
-    requires { Ends (digits k x) at }
-    ensures { Wrote (digits k x) out.old at out.new result }
-{
-    if k == 0 {
-        return at;
+    // A text as it stands.
+    fn put_text(&mut self, text: &[u8])
+        requires { Ends text.now self.old.at }
+        ensures { Puts text.now self.old self.new }
+    {
+        for b in text {
+            self.put_byte(*b);
+        }
     }
-    let last = (48 + x % 10) as u8;
-    if x < 10 {
-        return put_byte(out, at, last);
+
+    // The digits of a number.
+    #[tactic(auto, using(crate::proofs::Digits::digits_decimal))]
+    fn put_digits(&mut self, x: usize)
+        requires { Ends (digits 20 x) self.old.at }
+        ensures { Puts (digits 20 x) self.old self.new }
+    {
+        self.put_text(itoa::Buffer::new().format(x).as_bytes());
     }
-    let next = put_digits(out, at, k - 1, x / 10);
-    put_byte(out, next, last)
-}
 
-// A number and the byte that ends it.
-fn put_number(out: &mut [u8], at: usize, x: usize, ends: u8) -> usize
-    requires { Ends (number x ends) at }
-    ensures { Wrote (number x ends) out.old at out.new result }
-{
-    let next = put_digits(out, at, 20, x);
-    put_byte(out, next, ends)
-}
-
-pub fn put_header(out: &mut [u8], at: usize) -> usize
-    requires { Ends header at }
-    ensures { Wrote header out.old at out.new result }
-{
-    put_text(out, at, b"event kind code queued\n")
-}
-
-pub fn put_event(
-    out: &mut [u8],
-    at: usize,
-    ordinal: usize,
-    kind: usize,
-    code: usize,
-    queued: usize,
-) -> usize
-    requires { Ends (event_line ordinal kind code queued) at }
-    ensures { Wrote (event_line ordinal kind code queued) out.old at out.new result }
-{
-    let next = put_number(out, at, ordinal, b' ');
-    let next = put_number(out, next, kind, b' ');
-    let next = put_number(out, next, code, b' ');
-    put_number(out, next, queued, b'\n')
-}
-
-#[tactic(auto, unfolding(crate::specs::Text::downstream_end))]
-fn put_downstream(out: &mut [u8], at: usize, w: usize) -> usize
-    requires { Ends (downstream_end w) at }
-    ensures { Wrote (downstream_end w) out.old at out.new result }
-{
-    if w == 255 {
-        return put_text(out, at, b"-\n");
+    // A number and the byte that ends it.
+    #[tactic(auto, unfolding(crate::specs::Text::number), using(crate::proofs::Writing::writing))]
+    fn put_number(&mut self, x: usize, ends: u8)
+        requires { Ends (number x ends) self.old.at }
+        ensures { Puts (number x ends) self.old self.new }
+    {
+        self.put_digits(x);
+        self.put_byte(ends);
     }
-    put_number(out, at, w, b'\n')
-}
 
-pub fn put_route(
-    out: &mut [u8],
-    at: usize,
-    u: usize,
-    v: usize,
-    distance: usize,
-    downstream: usize,
-) -> usize
-    requires { Ends (route_line u v distance downstream) at }
-    ensures { Wrote (route_line u v distance downstream) out.old at out.new result }
-{
-    let next = put_text(out, at, b"d ");
-    let next = put_number(out, next, u, b' ');
-    let next = put_number(out, next, v, b' ');
-    let next = put_number(out, next, distance, b' ');
-    put_downstream(out, next, downstream)
+    #[tactic(auto, unfolding(crate::specs::Text::header))]
+    pub fn put_header(&mut self)
+        requires { Ends header self.old.at }
+        ensures { Puts header self.old self.new }
+    {
+        self.put_text(b"event kind code queued\n");
+    }
+
+    #[tactic(auto, unfolding(crate::specs::Text::event_line), using(crate::proofs::Writing::writing))]
+    pub fn put_event(&mut self, ordinal: usize, kind: usize, code: usize, queued: usize)
+        requires { Ends (event_line ordinal kind code queued) self.old.at }
+        ensures { Puts (event_line ordinal kind code queued) self.old self.new }
+    {
+        self.put_number(ordinal, b' ');
+        self.put_number(kind, b' ');
+        self.put_number(code, b' ');
+        self.put_number(queued, b'\n');
+    }
+
+    #[tactic(auto, unfolding(crate::specs::Text::downstream_end))]
+    fn put_downstream(&mut self, w: usize)
+        requires { Ends (downstream_end w) self.old.at }
+        ensures { Puts (downstream_end w) self.old self.new }
+    {
+        if w == 255 {
+            return self.put_text(b"-\n");
+        }
+        self.put_number(w, b'\n');
+    }
+
+    #[tactic(auto, unfolding(crate::specs::Text::route_line), using(crate::proofs::Writing::writing))]
+    pub fn put_route(&mut self, u: usize, v: usize, distance: usize, downstream: usize)
+        requires { Ends (route_line u v distance downstream) self.old.at }
+        ensures { Puts (route_line u v distance downstream) self.old self.new }
+    {
+        self.put_text(b"d ");
+        self.put_number(u, b' ');
+        self.put_number(v, b' ');
+        self.put_number(distance, b' ');
+        self.put_downstream(downstream);
+    }
 }

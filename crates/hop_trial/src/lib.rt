@@ -8,7 +8,7 @@ ghost use Rattle.hop_rule.specs.Worth.{line, tried};
 ghost use Rattle.hop_cells.specs.Cells.{Room};
 ghost use Rattle.hop_trial.specs.Trial.{turned, Copied, found};
 
-use hop_cells::{get2, start};
+use hop_cells::{Stored, start};
 use hop_changes::{change, lost};
 use hop_rule::Table;
 use hop_runs::run;
@@ -25,6 +25,7 @@ pub struct Found {
 }
 
 // The first k bytes of one buffer, written over those of another.
+// A loop: with `copy_from_slice` the archive would need memmove (README, 'What is trusted').
 pub fn copy(from: &[u8], to: &mut [u8], k: usize)
     requires { (k ≤ length from.now) × (k ≤ length to.old) }
     ensures { to.new ≡ written (take k from.now) to.old }
@@ -40,7 +41,8 @@ fn turn(x: &mut [u8], n: usize, a: usize, b: usize)
     requires { Room n x.old × (a < n) × (b < n) }
     ensures { x.new ≡ turned n a b x.old }
 {
-    if get2(x, n, Table::Links, a, b) == 1 {
+    let state = Stored { bytes: x, n };
+    if state.get2(Table::Links, a, b) == 1 {
         link_down(x, n, a, b);
     } else {
         link_up(x, n, a, b);

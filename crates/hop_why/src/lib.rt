@@ -1,4 +1,5 @@
 // Why a node reaches a destination in so many hops, or not at all (02, R-3): the path, the set, and the public call, which does not count on its caller.
+// What `as` narrows here is proved to fit; `try_from` would add an error that cannot be.
 #![tactic(auto)]
 
 ghost use Rattle.std.specs.Prelude.{◌≡◌, ◌+◌, ◌<◌, ◌≤◌, length};
@@ -7,33 +8,32 @@ ghost use Rattle.hop_rule.specs.Words.{those};
 ghost use Rattle.hop_rule.specs.Stored.{read_as};
 ghost use Rattle.hop_rule.specs.Why as reason;
 ghost use Rattle.hop_rule.specs.Why.{along, joined_to};
-ghost use Rattle.hop_cells.specs.Cells.{Room};
 ghost use Rattle.hop_seen.specs.Seen as seen;
 ghost use Rattle.hop_why.specs.Answers.{Why};
 ghost use Rattle.hop_why.specs.Writing.{Stays, Hands};
 
-use hop_cells::route;
-use hop_judge::{Judged, judge_why};
+use hop_cells::Stored;
+use hop_judge::judge_why;
+use hop_rule::Refused;
 use hop_seen::{added, has};
 
-// A path or a set of so many bytes, or a refusal.
+// Which reason was written, and how many bytes it has.
 #[derive(Clone, Copy)]
-pub enum WhyAnswer {
+pub enum Reason {
     Path(u32),
     Set(u32),
-    Refused(u32),
 }
 
 // The path from u to v over so many hops, from place `at` on: it calls itself on the downstream, the hop count falling.
 #[tactic(auto, using(crate::proofs::Paths::path_more, crate::proofs::Paths::path_one))]
-fn path(s: &[u8], list: &mut [u8], n: usize, u: usize, v: usize, hops: usize, at: usize)
-    requires { Room n s.now × (v < n) × (at + hops < length list.old) × Stays (read_as n s.now) u v hops }
-    ensures { list.new ≡ sets list.old at (along (read_as n s.now) u v hops) }
+fn path(s: Stored, list: &mut [u8], u: usize, v: usize, hops: usize, at: usize)
+    requires { (v < s.n) × (at + hops < length list.old) × Stays (read_as s.n s.bytes.now) u v hops }
+    ensures { list.new ≡ sets list.old at (along (read_as s.entry.n s.entry.bytes.now) u v hops) }
 {
     list[at] = u as u8;
     if 0 < hops {
-        let next = route(s, n, u, v).downstream;
-        path(s, list, n, next, v, hops - 1, at + 1);
+        let next = usize::from(s.route(u, v).downstream);
+        path(s, list, next, v, hops - 1, at + 1);
     }
 }
 
@@ -44,22 +44,19 @@ struct Joined {
     count: usize,
 }
 
-fn joined_to(s: &[u8], n: usize, u: usize) -> Joined
-    requires { Room n s.now × (u < n) }
-    ensures { (those n (seen.has result.set) ≡ joined_to (read_as n s.now) u) × (result.count ≡ length (joined_to (read_as n s.now) u)) }
+fn joined_to(s: Stored, u: usize) -> Joined
+    requires { u < s.n }
+    ensures { (those s.entry.n (seen.has result.set) ≡ joined_to (read_as s.entry.n s.entry.bytes.now) u) × (result.count ≡ length (joined_to (read_as s.entry.n s.entry.bytes.now) u)) }
 {
     let mut set = 0u64;
     let mut count = 0;
-    for x in 0..n {
-        if route(s, n, u, x).distance < n {
+    for x in 0..s.n {
+        if usize::from(s.route(u, x).distance) < s.n {
             set = added(set, x as u8);
             count += 1;
         }
     }
-    Joined {
-        set: set,
-        count: count,
-    }
+    Joined { set, count }
 }
 
 // The numbers below n that are in a set, ascending, from the first place on.
@@ -77,43 +74,40 @@ fn put_set(list: &mut [u8], n: usize, set: u64)
 }
 
 // Each reason is shown if the list holds it, and otherwise refused with 2: the path, which has a byte more than hops,
-fn show_path(s: &[u8], list: &mut [u8], n: usize, u: usize, v: usize, hops: usize) -> WhyAnswer
-    requires { Room n s.now × (v < n) × (hops < n) × Stays (read_as n s.now) u v hops }
-    ensures { Hands (reason.path (along (read_as n s.now) u v hops)) list.old result list.new }
+fn show_path(s: Stored, list: &mut [u8], u: usize, v: usize, hops: usize) -> Result<Reason, Refused>
+    requires { (v < s.n) × (hops < s.n) × Stays (read_as s.n s.bytes.now) u v hops }
+    ensures { Hands (reason.path (along (read_as s.entry.n s.entry.bytes.now) u v hops)) list.old result list.new }
 {
     if list.len() <= hops {
-        return WhyAnswer::Refused(2);
+        return Err(Refused::Short);
     }
-    path(s, list, n, u, v, hops, 0);
-    WhyAnswer::Path(hops as u32 + 1)
+    path(s, list, u, v, hops, 0);
+    Ok(Reason::Path(hops as u32 + 1))
 }
 
 // and the set.
-fn show_set(s: &[u8], list: &mut [u8], n: usize, u: usize) -> WhyAnswer
-    requires { Room n s.now × (u < n) }
-    ensures { Hands (reason.set (joined_to (read_as n s.now) u)) list.old result list.new }
+fn show_set(s: Stored, list: &mut [u8], u: usize) -> Result<Reason, Refused>
+    requires { u < s.n }
+    ensures { Hands (reason.set (joined_to (read_as s.entry.n s.entry.bytes.now) u)) list.old result list.new }
 {
-    let joined = joined_to(s, n, u);
+    let joined = joined_to(s, u);
     if list.len() < joined.count {
-        return WhyAnswer::Refused(2);
+        return Err(Refused::Short);
     }
-    put_set(list, n, joined.set);
-    WhyAnswer::Set(joined.count as u32)
+    put_set(list, s.n, joined.set);
+    Ok(Reason::Set(joined.count as u32))
 }
 
 // Why u reaches v in so many hops, or not at all: which reason it is, and how many bytes of it were written. Refuses 2, 1, 2, 3, 4, 12, 13, 2.
-pub fn why(s: &[u8], u: usize, v: usize, list: &mut [u8]) -> WhyAnswer
+pub fn why(s: &[u8], u: usize, v: usize, list: &mut [u8]) -> Result<Reason, Refused>
     ensures { Why u v s.now list.old result list.new }
 {
-    match judge_why(s, u, v) {
-        Judged::Refused(c) => WhyAnswer::Refused(c),
-        Judged::Go(n) => {
-            let hops = route(s, n, u, v).distance;
-            if hops < n {
-                show_path(s, list, n, u, v, hops)
-            } else {
-                show_set(s, list, n, u)
-            }
-        }
+    let n = judge_why(s, u, v)?;
+    let state = Stored { bytes: s, n };
+    let hops = usize::from(state.route(u, v).distance);
+    if hops < n {
+        show_path(state, list, u, v, hops)
+    } else {
+        show_set(state, list, u)
     }
 }

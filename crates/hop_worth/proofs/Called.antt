@@ -1,12 +1,14 @@
 -- The call where it goes on: what is then known of the three buffers, that the copy is made, and that the lines written are its result; and where it is refused. Assumes nothing.
+use Rattle.std.specs.Prelude.{Result, Ok, Err}
 use mathlib.Core.Path.{◌≡◌, sym, ap, ◌∙◌}
-use mathlib.Core.List.{List}
+use mathlib.Core.List.{List, []}
 use Prim.Native.Nat.{ℕ, ◌+◌, ◌≤◌}
 use native.Mathlib.Omega.{arith}
 use lib.IntN.{ℤ}
 use lib.ListN.{length, take, drop, length-append, length-drop}
 use lib.Seq.{length-take-le, take_at, sets}
 use borrow.Author.Tests.{eqb-true, ltb-false, not-false}
+use Rattle.hop_rule.specs.declared.Refused.{Refused}
 use Rattle.hop_rule.specs.Rule.{total}
 use Rattle.hop_rule.specs.Stored.{size, nodes, read}
 use Rattle.hop_rule.specs.Records.{written}
@@ -15,11 +17,8 @@ use Rattle.hop_rule.specs.Worth.{lines, numbers, worth_refusals, worth_done, wor
 use Rattle.hop_laws.specs.Fine.{Fine}
 use Rattle.hop_laws.proofs.Calls.{judge_none, state_fine}
 use Rattle.hop_laws.proofs.Worth.{worth_is_done, worth_refused}
-use Rattle.hop_judge.specs.declared.Judged.{Judged}
-use Rattle.hop_judge.specs.declared.Judged.TheVariants.{Go, Refused}
-use Rattle.hop_judge.specs.Verdict.{verdict}
+use Rattle.hop_judge.specs.Verdict.{Judges}
 use Rattle.hop_judge.proofs.Judging.{gone, stopped}
-use Rattle.hop_ask.specs.declared.Answer.TheVariants as answer
 use Rattle.hop_trial.specs.Trial.{Copied}
 use Rattle.hop_worth.specs.Answers.{valued}
 use Rattle.hop_laws.proofs.Lists.{sets_written}
@@ -31,13 +30,13 @@ pub record Known (s trial : List ℕ) (list : List ℤ) : Type 0 where
   pub room : size (nodes s) ≤ length trial
   pub holds : length (numbers (lines (read s))) ≤ length list
 
-module _ (s trial : List ℕ) (list : List ℤ) {j : Judged} (e : j ≡ verdict (judge (worth_refusals s trial list)) (nodes s)) where
-  pub worth_stopped : {c : ℕ} → j ≡ Refused c → valued (answer.Refused c) trial list ≡ worth s trial list
+module _ (s trial : List ℕ) (list : List ℤ) {j : Result ℕ Refused} (e : Judges (judge (worth_refusals s trial list)) (nodes s) j) where
+  pub worth_stopped : {r : Refused} → j ≡ Err r → valued (Err r) trial list ≡ worth s trial list
   worth_stopped f =
       let (same, some) = stopped _ _ e f in
-      ap (λ c. valued (answer.Refused c) trial list) same ∙ sym (worth_refused s trial list (λ z. some (same ∙ z)))
+      ap (λ c. record { number = c; answers = []; trial = trial; list = list }) same ∙ sym (worth_refused s trial list some)
 
-  module _ {n : ℕ} (g : j ≡ Go n) where
+  module _ {n : ℕ} (g : j ≡ Ok n) where
     claim : n ≡ nodes s
     claim = (gone _ _ e g).1
 
@@ -83,7 +82,7 @@ module _ (s trial : List ℕ) (list : List ℤ) {j : Judged} (e : j ≡ verdict 
         → r ≡ length (lines (read s))
         → l ≡ sets list 0 (numbers (lines (read s)))
         → y ≡ x
-        → valued (answer.Value r) y l ≡ worth s trial list
+        → valued (Ok r) y l ≡ worth s trial list
     unfolding worth_done
     worth_made q w count put still =
         let copied = still ∙ w ∙ ap (λ m. written (take m s) trial) (q ∙ ap size claim) in

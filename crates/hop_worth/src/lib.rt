@@ -1,4 +1,5 @@
 // What each link is worth (02, R-1): the lines of all pairs that are tried, ascending, and the public call, which does not count on its caller.
+// What `as` narrows here is proved to fit; `try_from` would add an error that cannot be.
 #![tactic(auto)]
 
 ghost use Rattle.std.specs.Prelude.{◌≡◌, ◌+◌, ◌*◌, ◌<◌, ◌≤◌, pos, length, set};
@@ -10,10 +11,9 @@ ghost use Rattle.hop_trial.specs.Trial.{Copied};
 ghost use Rattle.hop_worth.specs.Writing.{line_of, Small, seven_of};
 ghost use Rattle.hop_worth.specs.Answers.{Worth};
 
-use hop_ask::Answer;
-use hop_cells::{get2, size};
-use hop_judge::{Judged, judge_worth};
-use hop_rule::Table;
+use hop_cells::{Stored, size};
+use hop_judge::judge_worth;
+use hop_rule::{Refused, Table};
 use hop_trial::{Found, copy, trial};
 
 // A signed number is put at place i of the list, and one that is not below zero.
@@ -58,7 +58,8 @@ fn line_of(
     requires { Copied n s.now x.old × (a < b) × (b < n) × (i + length (line_of (read s.now) a b) ≤ 780) × (7 * (i + length (line_of (read s.now) a b)) ≤ length list.old) }
     ensures { (result ≡ i + length (line_of (read s.now) a b)) × (list.new ≡ sets list.old (7 * i) (numbers (line_of (read s.now) a b))) × (x.new ≡ x.old) }
 {
-    if get2(s, n, Table::Links, a, b) != get2(s, n, Table::Links, b, a) {
+    let state = Stored { bytes: s, n };
+    if state.get2(Table::Links, a, b) != state.get2(Table::Links, b, a) {
         return i;
     }
     let f = trial(s, x, n, a, b);
@@ -91,15 +92,11 @@ fn all_lines(s: &[u8], x: &mut [u8], list: &mut [i32], n: usize) -> usize
 }
 
 // What each link is worth: the number of lines written. The second buffer ends with a copy of the state. Refuses 2, 1, 2, 3, 12, 2.
-pub fn worth(s: &[u8], buffer: &mut [u8], list: &mut [i32]) -> Answer
+pub fn worth(s: &[u8], buffer: &mut [u8], list: &mut [i32]) -> Result<u32, Refused>
     ensures { Worth s.now buffer.old list.old result buffer.new list.new }
 {
-    match judge_worth(s, buffer, list) {
-        Judged::Refused(c) => Answer::Refused(c),
-        Judged::Go(n) => {
-            copy(s, buffer, size(n));
-            let k = all_lines(s, buffer, list, n);
-            Answer::Value(k as u32)
-        }
-    }
+    let n = judge_worth(s, buffer, list)?;
+    copy(s, buffer, size(n));
+    let lines = all_lines(s, buffer, list, n);
+    Ok(lines as u32)
 }

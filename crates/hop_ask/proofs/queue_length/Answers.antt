@@ -1,18 +1,21 @@
 -- `queue_length` meets its contract: it is refused by its number, or answers the length byte that it reads. Assumes nothing.
 use Rattle.hop_rule.specs.Calls.{refusals}
-use Rattle.hop_judge.proofs.Judging.{call_refused}
-use Rattle.hop_judge.proofs.Known.{cell_ready}
+use Rattle.hop_judge.proofs.Judging.{handed_on, call_refused}
+use Rattle.hop_judge.proofs.Known.{room_known, cell_below}
 use Rattle.hop_ask.proofs.Asked.{length_asked}
 use Rattle.hop_ask.proofs.queue_length.Goals as goal
 
+pub invariant_of-get2 : goal.invariant_of-get2
+invariant_of-get2 c = record { room = room_known _ _ c.judge_ends.ensures c.in_ok-n.was }
+
 pub get2-requires : goal.get2-requires
-get2-requires c = cell_ready _ _ _ _ c.judge_ends.ensures c.in-Go.is
+get2-requires c = cell_below _ _ _ _ c.judge_ends.ensures c.in_ok-n.was
 
-pub returns-in-Refused : goal.returns-in-Refused
+pub returns-in_err-n : goal.returns-in_err-n
 unfolding refusals
-returns-in-Refused c = call_refused _ _ _ _ c.judge_ends.ensures c.in-Refused.is
+returns-in_err-n c = rw (handed_on _ c.from_residual.ensures.1) (call_refused _ _ _ _ c.judge_ends.ensures c.in_err-n.was)
 
-pub returns-in-Go : goal.returns-in-Go
+pub returns : goal.returns
 unfolding refusals
-returns-in-Go c =
-    rw c.value.ensures (length_asked _ c.in-Go.is _ _ c.judge_ends.ensures c.get2.ensures.0)
+returns c =
+    length_asked _ c.in_ok-n.was _ _ c.judge_ends.ensures c.get2.ensures.0

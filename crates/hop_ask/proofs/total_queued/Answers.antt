@@ -1,19 +1,19 @@
 -- `total_queued` meets its contract: it is refused by its number, or answers what it counts. Assumes nothing.
 use mathlib.Core.List.{[]}
 use Rattle.hop_rule.specs.Calls.{refusals}
-use Rattle.hop_judge.proofs.Judging.{call_refused}
+use Rattle.hop_judge.proofs.Judging.{handed_on, call_refused}
 use Rattle.hop_judge.proofs.Known.{room_known}
 use Rattle.hop_ask.proofs.Asked.{total_asked}
 use Rattle.hop_ask.proofs.total_queued.Goals as goal
 
-pub queued-requires : goal.queued-requires
-queued-requires c = room_known _ [] c.judge_state.ensures c.in-Go.is
+pub invariant_of-queued : goal.invariant_of-queued
+invariant_of-queued c = record { room = room_known _ [] c.judge_state.ensures c.in_ok-n.was }
 
-pub returns-in-Refused : goal.returns-in-Refused
+pub returns-in_err-n : goal.returns-in_err-n
 unfolding refusals
-returns-in-Refused c = call_refused _ _ _ _ c.judge_state.ensures c.in-Refused.is
+returns-in_err-n c = rw (handed_on _ c.from_residual.ensures.1) (call_refused _ _ _ _ c.judge_state.ensures c.in_err-n.was)
 
-pub returns-in-Go : goal.returns-in-Go
+pub returns : goal.returns
 unfolding refusals
-returns-in-Go c =
-    rw c.value.ensures (total_asked _ c.in-Go.is c.judge_state.ensures c.queued.ensures.0)
+returns c =
+    total_asked _ c.in_ok-n.was c.judge_state.ensures c.queued.ensures.0

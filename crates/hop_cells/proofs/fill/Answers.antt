@@ -1,17 +1,13 @@
--- `fill` meets its contract: after c turns the first c places are written. Assumes nothing.
-use mathlib.Core.Path.{refl, sym}
+-- `fill` meets its contract: a row of a block is n cells in a row. Assumes nothing.
+use mathlib.Core.Path.{◌∙◌, ap}
 use native.Mathlib.Omega.{arith}
-use Rattle.hop_laws.proofs.Words.{loop_none, loop_turn}
-use Rattle.hop_cells.specs.Cells.{fill}
-use Rattle.hop_cells.proofs.Loops.{loop_end}
+use Rattle.hop_cells.specs.Cells.{fill_cells, fill}
+use Rattle.hop_cells.proofs.Places.{row_most}
 use Rattle.hop_cells.proofs.fill.Goals as goal
 
-pub loop-c-init : goal.loop-c-init
-loop-c-init c = (omega arith, refl, sym (loop_none _ _))
-
-pub loop-c-preserved : goal.loop-c-preserved
-loop-c-preserved c = (omega arith, omega arith, loop_turn _ _ _ c.loop-c.invariant.2 c.put3.ensures)
+pub fill_cells-requires : goal.fill_cells-requires
+fill_cells-requires c = let p = c.requires in (p.0, omega (arith, c.triple.ensures.0, row_most p.1 p.2))
 
 pub returns : goal.returns
-unfolding fill
-returns c = loop_end _ _ _ _ c.loop-c.invariant.2 c.loop-c.invariant.0 c.loop-c-test.false
+unfolding fill_cells fill
+returns c = let a = c.args in c.fill_cells.ensures ∙ ap (λ i. fill_cells a.n a.t i a.n a.x a.s.now) (omega (arith, c.triple.ensures.0))

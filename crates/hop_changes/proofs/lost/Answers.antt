@@ -1,22 +1,24 @@
--- `lost` meets its contract: after i turns the places below i are counted, at most 1 each. Assumes nothing.
-use mathlib.Core.Path.{sym, ◌∙◌}
+-- `lost` meets its contract: all places are counted, at most 1 each. Assumes nothing.
+use mathlib.Core.Path.{ap, ◌∙◌}
 use native.Mathlib.Omega.{arith}
-use Rattle.hop_laws.proofs.Words.{sum_none}
-use Rattle.hop_cells.proofs.Loops.{sum_turn, sum_end}
-use Rattle.hop_changes.proofs.Sums.{lost_all}
+use borrow.Author.Rules.{rules}
+use Rattle.hop_rule.specs.Words.{sum}
+use Rattle.hop_cells.proofs.Chains.{summed, sum_fits}
+use Rattle.hop_changes.specs.Changes.{lost_at}
+use Rattle.hop_changes.proofs.Sums.{lost_all, lost_most}
 use Rattle.hop_changes.proofs.lost.Goals as goal
 
-pub loop-i-init : goal.loop-i-init
-loop-i-init c = (omega arith, omega arith, sym (sum_none _))
-
-pub loop-i-preserved : goal.loop-i-preserved
-loop-i-preserved c =
-    let inv = c.loop-i.invariant in
-    let (one, most) = c.lost_at-sum.ensures in
-    (omega (arith, c.loop-i-test.true, c.square-i-end.ensures.0), omega arith, sum_turn _ _ inv.2 one)
+pub sum-requires-clause-fits : goal.sum-requires-clause-fits
+unfolding lost_at
+sum-requires-clause-fits c =
+    let a = c.args in
+    sum_fits _ _ (lost_at a.n a.before.now a.after.now) c.map.ensures.source c.map.ensures.closure (λ x r q k. search rules) _
+    (omega (arith, lost_most a.n a.before.now a.after.now c.square.result, c.square.ensures.1))
 
 pub returns : goal.returns
+unfolding lost_at
 returns c =
-    let inv = c.loop-i.invariant in
-    let (whole, few) = c.square-i-end.ensures in
-    (sum_end _ _ _ inv.2 inv.0 (omega (arith, c.loop-i-test.false, whole)) ∙ lost_all _ _ _, omega arith)
+    let a = c.args in
+    let f = lost_at a.n a.before.now a.after.now in
+    let e = summed _ _ f c.map.ensures.source c.map.ensures.closure (λ x r q k. search rules) c.sum.ensures.ran in
+    (e ∙ ap (λ k. sum k f) c.square.ensures.0 ∙ lost_all _ _ _, omega (arith, e, lost_most a.n a.before.now a.after.now c.square.result, c.square.ensures.1))

@@ -1,17 +1,23 @@
--- `queued` meets its contract: after w turns the queues of the senders below w are counted. Assumes nothing.
-use mathlib.Core.Path.{sym}
+-- `queued` meets its contract: all lengths are added up, in one row. Assumes nothing.
+use mathlib.Core.Path.{ap, ◌∙◌}
+use Prim.Native.Nat.{ℕ}
 use native.Mathlib.Omega.{arith}
-use Rattle.hop_laws.proofs.Words.{sum_none}
-use Rattle.hop_cells.proofs.Loops.{sum_turn, sum_end}
-use Rattle.hop_counts.specs.Counts.{queued}
+use borrow.Author.Rules.{rules}
+use Rattle.hop_rule.specs.declared.Table.TheVariants.{Lengths}
+use Rattle.hop_rule.specs.Words.{sum}
+use Rattle.hop_cells.specs.Cells.{get}
+use Rattle.hop_cells.proofs.Chains.{summed_most, sum_fits_most}
+use Rattle.hop_counts.proofs.Read.{queued_flat}
 use Rattle.hop_counts.proofs.queued.Goals as goal
 
-pub loop-w-init : goal.loop-w-init
-loop-w-init c = (omega arith, omega arith, sym (sum_none _))
-
-pub loop-w-preserved : goal.loop-w-preserved
-loop-w-preserved c = (omega arith, omega arith, sum_turn _ _ c.loop-w.invariant.2 c.waiting_from-sum.ensures.0)
+pub sum-requires-clause-fits : goal.sum-requires-clause-fits
+sum-requires-clause-fits c =
+    let a = c.args in
+    sum_fits_most _ _ (λ (i : ℕ). get a.s.n Lengths i a.s.bytes.now) 255 c.map.ensures.source c.map.ensures.closure (λ x r q k. search rules) _ (omega (arith, c.square.ensures.1))
 
 pub returns : goal.returns
-unfolding queued
-returns c = (sum_end _ _ _ c.loop-w.invariant.2 c.loop-w.invariant.0 c.loop-w-test.false, omega arith)
+returns c =
+    let a = c.args in
+    let f = λ (i : ℕ). get a.s.n Lengths i a.s.bytes.now in
+    let e = summed_most _ _ f 255 c.map.ensures.source c.map.ensures.closure (λ x r q k. search rules) c.sum.ensures.ran in
+    (e.0 ∙ ap (λ k. sum k f) c.square.ensures.0 ∙ queued_flat a.s.n a.s.bytes.now, omega (arith, e.1, c.square.ensures.1))

@@ -1,17 +1,20 @@
--- `waiting_for` meets its contract: after w turns the queues of the senders below w are counted. Assumes nothing.
-use mathlib.Core.Path.{sym}
+-- `waiting_for` meets its contract: the lengths of the queues to u are added up. Assumes nothing.
 use native.Mathlib.Omega.{arith}
-use Rattle.hop_laws.proofs.Words.{sum_none}
-use Rattle.hop_cells.proofs.Loops.{sum_turn, sum_end}
+use borrow.Author.Rules.{rules}
+use Rattle.hop_rule.specs.declared.Table.TheVariants.{Lengths}
+use Rattle.hop_cells.specs.Cells.{get2}
+use Rattle.hop_cells.proofs.Chains.{summed_most, sum_fits_most}
 use Rattle.hop_counts.specs.Counts.{waiting_for}
 use Rattle.hop_counts.proofs.waiting_for.Goals as goal
 
-pub loop-w-init : goal.loop-w-init
-loop-w-init c = (omega arith, omega arith, sym (sum_none _))
-
-pub loop-w-preserved : goal.loop-w-preserved
-loop-w-preserved c = (omega arith, omega arith, sum_turn _ _ c.loop-w.invariant.2 c.get2-sum.ensures.0)
+pub sum-requires-clause-fits : goal.sum-requires-clause-fits
+sum-requires-clause-fits c =
+    let a = c.args in
+    sum_fits_most _ a.s.n (λ w. get2 a.s.n Lengths w a.u a.s.bytes.now) 255 c.map.ensures.source c.map.ensures.closure (λ x r q k. search rules) _ (omega (arith, a.s.room.most))
 
 pub returns : goal.returns
 unfolding waiting_for
-returns c = (sum_end _ _ _ c.loop-w.invariant.2 c.loop-w.invariant.0 c.loop-w-test.false, omega arith)
+returns c =
+    let a = c.args in
+    let e = summed_most _ a.s.n (λ w. get2 a.s.n Lengths w a.u a.s.bytes.now) 255 c.map.ensures.source c.map.ensures.closure (λ x r q k. search rules) c.sum.ensures.ran in
+    (e.0, omega (arith, e.1, a.s.room.most))

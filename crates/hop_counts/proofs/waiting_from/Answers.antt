@@ -1,17 +1,20 @@
--- `waiting_from` meets its contract: after x turns the queues to the receivers below x are counted. Assumes nothing.
-use mathlib.Core.Path.{sym}
+-- `waiting_from` meets its contract: the lengths of the queues from u are added up. Assumes nothing.
 use native.Mathlib.Omega.{arith}
-use Rattle.hop_laws.proofs.Words.{sum_none}
-use Rattle.hop_cells.proofs.Loops.{sum_turn, sum_end}
+use borrow.Author.Rules.{rules}
+use Rattle.hop_rule.specs.declared.Table.TheVariants.{Lengths}
+use Rattle.hop_cells.specs.Cells.{get2}
+use Rattle.hop_cells.proofs.Chains.{summed_most, sum_fits_most}
 use Rattle.hop_counts.specs.Counts.{waiting_from}
 use Rattle.hop_counts.proofs.waiting_from.Goals as goal
 
-pub loop-x-init : goal.loop-x-init
-loop-x-init c = (omega arith, omega arith, sym (sum_none _))
-
-pub loop-x-preserved : goal.loop-x-preserved
-loop-x-preserved c = (omega arith, omega arith, sum_turn _ _ c.loop-x.invariant.2 c.get2-sum.ensures.0)
+pub sum-requires-clause-fits : goal.sum-requires-clause-fits
+sum-requires-clause-fits c =
+    let a = c.args in
+    sum_fits_most _ a.s.n (λ x. get2 a.s.n Lengths a.u x a.s.bytes.now) 255 c.map.ensures.source c.map.ensures.closure (λ x r q k. search rules) _ (omega (arith, a.s.room.most))
 
 pub returns : goal.returns
 unfolding waiting_from
-returns c = (sum_end _ _ _ c.loop-x.invariant.2 c.loop-x.invariant.0 c.loop-x-test.false, omega arith)
+returns c =
+    let a = c.args in
+    let e = summed_most _ a.s.n (λ x. get2 a.s.n Lengths a.u x a.s.bytes.now) 255 c.map.ensures.source c.map.ensures.closure (λ x r q k. search rules) c.sum.ensures.ran in
+    (e.0, omega (arith, e.1, a.s.room.most))

@@ -2,13 +2,13 @@
 use mathlib.Core.Path.{ap}
 use native.Mathlib.Omega.{arith}
 use lib.Dec.{leb}
-use Rattle.hop_judge.proofs.Judging.{refused_already, judged_next}
+use Rattle.hop_judge.proofs.Judging.{handed_on, refused_already, judged_next}
 use Rattle.hop_judge.proofs.judge_node.Goals as goal
 
-pub returns-in-Go : goal.returns-in-Go
-returns-in-Go c =
+pub returns : goal.returns
+returns c =
     let test = ap (λ n. leb n c.args.a) in
-    judged_next _ _ c.judge_state.ensures _ (omega arith) c.in-Go.is test c.unless.ensures
+    judged_next _ _ c.judge_state.ensures _ (omega arith) c.in_ok-n.was test c.unless.ensures
 
-pub returns-in_default : goal.returns-in_default
-returns-in_default c = refused_already _ _ c.judge_state.ensures _ c.in_default.not-Go
+pub returns-in_err-n : goal.returns-in_err-n
+returns-in_err-n c = refused_already _ _ c.judge_state.ensures _ c.in_err-n.was (handed_on _ c.from_residual.ensures.1)

@@ -5,16 +5,16 @@ use mathlib.Core.Bool.{not}
 use native.Mathlib.Omega.{arith}
 use lib.Dec.{eqb}
 use Rattle.hop_counts.proofs.Read.{queued_read}
-use Rattle.hop_judge.proofs.Judging.{refused_already, judged_next}
+use Rattle.hop_judge.proofs.Judging.{handed_on, refused_already, judged_next}
 use Rattle.hop_judge.proofs.Known.{room_known}
 use Rattle.hop_judge.proofs.judge_rest.Goals as goal
 
-pub unless_waiting-requires : goal.unless_waiting-requires
-unless_waiting-requires c = room_known _ [] c.judge_state.ensures c.in-Go.is
+pub invariant_of-state : goal.invariant_of-state
+invariant_of-state c = record { room = room_known _ [] c.judge_state.ensures c.in_ok-n.was }
 
-pub returns-in-Go : goal.returns-in-Go
-returns-in-Go c =
-    judged_next _ _ c.judge_state.ensures _ (omega arith) c.in-Go.is (λ claim. ap (λ x. not (eqb x 0)) (queued_read _ claim)) c.unless_waiting.ensures
+pub returns : goal.returns
+returns c =
+    judged_next _ _ c.judge_state.ensures _ (omega arith) c.in_ok-n.was (λ claim. ap (λ x. not (eqb x 0)) (queued_read _ claim)) c.unless_waiting.ensures
 
-pub returns-in_default : goal.returns-in_default
-returns-in_default c = refused_already _ _ c.judge_state.ensures _ c.in_default.not-Go
+pub returns-in_err-n : goal.returns-in_err-n
+returns-in_err-n c = refused_already _ _ c.judge_state.ensures _ c.in_err-n.was (handed_on _ c.from_residual.ensures.1)

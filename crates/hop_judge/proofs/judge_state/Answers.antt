@@ -5,22 +5,22 @@ use mathlib.Core.Path.{ap, ◌∙◌}
 use mathlib.Core.Bool.{not}
 use native.Mathlib.Omega.{arith}
 use Rattle.hop_rule.specs.Sound.{is_sound_as}
-use Rattle.hop_judge.proofs.Judging.{gone, refused_already, judged_next, claimed}
+use Rattle.hop_judge.proofs.Judging.{handed_on, gone, refused_already, judged_next, claimed}
 use Rattle.hop_judge.proofs.Known.{room_made}
 use Rattle.hop_judge.proofs.judge_state.Goals as goal
 
-pub is_sound-requires : goal.is_sound-requires
-is_sound-requires c =
-    let same = (gone _ _ c.judge_make.ensures c.in-Go.is).1 in
-    rw same (room_made _ _ c.judge_make.ensures c.in-Go.is)
+pub invariant_of-state : goal.invariant_of-state
+invariant_of-state c =
+    let same = (gone _ _ c.judge_make.ensures c.in_ok-n.was).1 in
+    record { room = rw same (room_made _ _ c.judge_make.ensures c.in_ok-n.was) }
 
-pub returns-in-Go : goal.returns-in-Go
-returns-in-Go c =
+pub returns : goal.returns
+returns c =
     let some : length c.args.s.now ≢ 0 = omega arith in
     let judged = claimed _ some c.nodes.ensures c.judge_make.ensures in
-    judged_next _ _ judged _ (omega arith) c.in-Go.is (λ claim. ap not (c.is_sound.ensures ∙ ap (λ m. is_sound_as m c.args.s.now) claim)) c.unless.ensures
+    judged_next _ _ judged _ (omega arith) c.in_ok-n.was (λ claim. ap not (c.is_sound.ensures ∙ ap (λ m. is_sound_as m c.args.s.now) claim)) c.unless.ensures
 
-pub returns-in_default : goal.returns-in_default
-returns-in_default c =
+pub returns-in_err-n : goal.returns-in_err-n
+returns-in_err-n c =
     let some : length c.args.s.now ≢ 0 = omega arith in
-    refused_already _ _ (claimed _ some c.nodes.ensures c.judge_make.ensures) _ c.in_default.not-Go
+    refused_already _ _ (claimed _ some c.nodes.ensures c.judge_make.ensures) _ c.in_err-n.was (handed_on _ c.from_residual.ensures.1)

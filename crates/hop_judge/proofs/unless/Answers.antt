@@ -1,13 +1,10 @@
--- `unless` meets its contract: where the refusal applies its number is not 0. Assumes nothing.
-use native.Mathlib.Omega.{arith}
-use borrow.Author.Tests.{ne_eqb}
-use Rattle.hop_judge.specs.Verdict.{verdict}
+-- `unless` meets its contract: the refusal's number is the first where it applies, and none where it does not. Assumes nothing.
+use mathlib.Core.Path.{refl}
+use Rattle.hop_judge.proofs.Judging.{goes, stops}
 use Rattle.hop_judge.proofs.unless.Goals as goal
 
 pub returns-then-applies : goal.returns-then-applies
-unfolding verdict
-returns-then-applies c = rw (c.if-applies.true, ne_eqb c.args.number 0 (λ z. omega arith))
+returns-then-applies c = rw c.if-applies.true (stops refl)
 
 pub returns : goal.returns
-unfolding verdict
-returns c = rw c.if-applies.false
+returns c = rw c.if-applies.false (goes refl)

@@ -3,8 +3,8 @@ use lib.ListN.{length}
 use Rattle.hop_replay.proofs.Left.{Midway}
 use Rattle.hop_replay.proofs.put_events.Given as goal
 
-abbrev pub invariant-loop-e : goal.invariant-loop-e
-invariant-loop-e l = Midway l.script l.initial.state l.initial.out l.at l.state l.out l.next l.place l.ordinal
+abbrev pub invariant-loop-found : goal.invariant-loop-found
+invariant-loop-found l = Midway l.script l.initial.state l.initial.page l.state l.page l.place l.ordinal
 
-abbrev pub decreases-loop-e : goal.decreases-loop-e
-decreases-loop-e l = length l.script - l.place
+abbrev pub decreases-loop-found : goal.decreases-loop-found
+decreases-loop-found l = length l.script - l.place

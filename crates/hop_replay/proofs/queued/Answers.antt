@@ -4,11 +4,11 @@ use Rattle.hop_replay.specs.Replay.{queued}
 use Rattle.hop_rule.specs.Calls.{answer_at}
 use Rattle.hop_replay.proofs.queued.Goals as goal
 
-pub returns-in-Value : goal.returns-in-Value
+pub returns-in-Ok : goal.returns-in-Ok
 unfolding queued
-returns-in-Value c =
-    ap (answer_at 0) (rw c.in-Value.is at c.total_queued.ensures)
+returns-in-Ok c =
+    ap (answer_at 0) (rw c.in-Ok.is at c.total_queued.ensures)
 
-pub returns-in-Refused : goal.returns-in-Refused
+pub returns-in-Err : goal.returns-in-Err
 unfolding queued
-returns-in-Refused c = ap (answer_at 0) (rw c.in-Refused.is at c.total_queued.ensures)
+returns-in-Err c = ap (answer_at 0) (rw c.in-Err.is at c.total_queued.ensures)

@@ -1,24 +1,9 @@
--- `all_are` meets its contract: the mark is `every` of the bytes passed. Assumes nothing.
-use mathlib.Core.Path.{sym, ◌∙◌}
-use native.Mathlib.Omega.{arith}
-use borrow.Author.Tests.{eq-eqb, ne_eqb}
+-- `all_are` meets its contract: each byte is tested for it. Assumes nothing.
+use lib.Dec.{eqb}
+use borrow.Author.Rules.{rules}
 use Rattle.hop_rows.specs.Rows.{all_are}
-use Rattle.hop_rows.proofs.Every.{every_none, every_stays, every_lost, every_done}
 use Rattle.hop_rows.proofs.all_are.Goals as goal
-use Rattle.hop_rows.proofs.all_are.Goals.{then-s-at, else-s-at}
-
-pub loop-i-init : goal.loop-i-init
-loop-i-init c = (omega arith, sym (every_none _))
-
-pub loop-i-preserved : goal.loop-i-preserved
-loop-i-preserved c = (
-  omega arith,
-  elim c.if-s-at.branch [
-    | then-s-at w ↦ w.ok-is ∙ every_lost _ _ (ne_eqb _ _ w.if-s-at.true)
-    | else-s-at w ↦ every_stays _ _ (w.ok-is ∙ c.loop-i.invariant.1) (eq-eqb _ _ w.if-s-at.false)
-  ],
-)
 
 pub returns : goal.returns
 unfolding all_are
-returns c = every_done _ _ _ c.loop-i.invariant.1 c.loop-i.invariant.0 c.loop-i-test.false
+returns c = c.each.ensures (λ b. eqb b c.args.x) (λ x r e. search rules)

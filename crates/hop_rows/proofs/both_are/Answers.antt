@@ -1,26 +1,8 @@
--- `both_are` meets its contract: the mark is `every` of the bytes passed. Assumes nothing.
-use mathlib.Core.Path.{sym, ◌∙◌}
-use native.Mathlib.Omega.{arith}
+-- `both_are` meets its contract: each pair of bytes is tested for it. Assumes nothing.
+use mathlib.Core.Bool.{◌&&◌}
 use lib.Dec.{eqb}
-use Rattle.hop_rows.specs.Rows.{byte, both_are}
-use Rattle.hop_rows.proofs.Every.{one_fails, both_pass, every_none, every_stays, every_lost, every_done}
+use borrow.Author.Rules.{rules}
 use Rattle.hop_rows.proofs.both_are.Goals as goal
-use Rattle.hop_rows.proofs.both_are.Goals.{then-s-at, else-s-at}
-
-pub loop-i-init : goal.loop-i-init
-loop-i-init c = (omega arith, sym (every_none _))
-
-pub loop-i-preserved : goal.loop-i-preserved
-loop-i-preserved c =
-    let one = eqb (byte c.args.s.now c.args.at c.loop-i.i) c.args.x in
-    let other = eqb (byte c.args.s.now c.args.to c.loop-i.i) c.args.x in (
-      omega arith,
-      elim c.if-s-at.branch [
-        | then-s-at w ↦ w.ok-is ∙ every_lost _ _ (one_fails one other w.if-s-at.true)
-        | else-s-at w ↦ every_stays _ _ (w.ok-is ∙ c.loop-i.invariant.1) (both_pass one other w.if-s-at.false)
-      ],
-    )
 
 pub returns : goal.returns
-unfolding both_are
-returns c = every_done _ _ _ c.loop-i.invariant.1 c.loop-i.invariant.0 c.loop-i-test.false
+returns c = rw (← c.requires) (c.each_pair.ensures (λ y z. eqb y c.args.x && eqb z c.args.x) (λ y z r e. search rules))

@@ -1,11 +1,10 @@
--- `row3` meets its contract: the row lies inside the state. Assumes nothing.
-use mathlib.Core.Path.{refl}
+-- `row3` meets its contract: the row lies inside the block. Assumes nothing.
 use native.Mathlib.Omega.{arith}
-use Rattle.hop_rows.proofs.Inside.{row3_inside}
+use Rattle.hop_rows.proofs.Inside.{row_ends}
 use Rattle.hop_rows.proofs.row3.Goals as goal
 
-pub overflow_add-result : goal.overflow_add-result
-overflow_add-result c = let p = c.requires in let i = row3_inside c.args.n c.args.t p.0 p.1 p.2 p.3 in rw c.pair.ensures.0 (omega (arith, c.start.ensures))
+pub part-requires : goal.part-requires
+part-requires c = let p = c.requires in (omega arith, rw p.2 (row_ends c.args.s.n c.pair.ensures.1))
 
 pub returns : goal.returns
-returns c = let p = c.requires in let i = row3_inside c.args.n c.args.t p.0 p.1 p.2 p.3 in rw (c.pair.ensures.0, c.start.ensures) (refl, i.ends)
+returns c = rw (← c.pair.ensures.0) c.part.ensures

@@ -1,31 +1,33 @@
--- `note` meets its contract: after i turns the first i lengths are noted and summed up. Assumes nothing.
-use mathlib.Core.Path.{refl, sym, ◌∙◌}
+-- `note` meets its contract: the lengths are one stretch of the state, and it is copied. Assumes nothing.
+use mathlib.Core.Path.{◌≡◌, ap, ◌∙◌}
+use mathlib.Core.List.{◌++◌}
+use Prim.Native.Nat.{ℕ, ◌+◌, ◌-◌, ◌<◌, ◌≤◌}
 use native.Mathlib.Omega.{arith}
-use lib.ListN.{length-set}
-use lib.Seq.{get_or-set_same, get_or-set_other}
-use borrow.Author.Count.{below_none, below_more}
-use Rattle.hop_laws.proofs.Words.{sum_none}
-use Rattle.hop_cells.proofs.Loops.{sum_turn, sum_end}
-use Rattle.hop_counts.proofs.Read.{queued_flat}
+use lib.ListN.{length, get_or, drop, get_or-append}
+use lib.Seq.{length-take-le, get_or-take, get_or-drop}
+use Rattle.hop_rule.specs.declared.Table.TheVariants.{Lengths}
+use Rattle.hop_cells.specs.Cells.{get}
+use Rattle.hop_cells.proofs.Places.{size_most, ends_inside}
 use Rattle.hop_runs.proofs.note.Goals as goal
 
-pub loop-i-init : goal.loop-i-init
-loop-i-init c = (omega arith, refl, omega arith, sym (sum_none _), below_none _)
+pub overflow_add-from : goal.overflow_add-from
+overflow_add-from c = omega (arith, c.start-from.ensures, c.square-k.ensures.0, ends_inside c.args.s.n Lengths, size_most c.args.s.room.most)
 
-pub loop-i-preserved : goal.loop-i-preserved
-loop-i-preserved c =
-    let l = c.loop-i in
-    let x = c.get-x in
-    let here = get_or-set_same l.noted l.i x.result 0 (omega arith) ∙ x.ensures in (
-      omega arith,
-      simp length-set (omega arith),
-      omega arith,
-      sum_turn _ _ l.invariant.3 x.ensures,
-      below_more _ _ (λ k h. get_or-set_other l.noted l.i k x.result 0 (omega arith) ∙ l.invariant.4 k h) here,
-    )
+pub slice_bounds-copy_from_slice-end-3 : goal.slice_bounds-copy_from_slice-end-3
+slice_bounds-copy_from_slice-end-3 c = omega (arith, c.start-from.ensures, c.square-k.ensures.0, ends_inside c.args.s.n Lengths, c.args.s.room.fits)
 
 pub returns : goal.returns
+unfolding get
 returns c =
-    let inv = c.loop-i.invariant in
-    let (whole, few) = c.square-i-end.ensures in
-    (sum_end _ _ _ inv.3 inv.0 (omega (arith, c.loop-i-test.false, whole)) ∙ queued_flat _ _, omega arith, λ i h. inv.4 i (omega arith))
+    let a = c.args in
+    let k = c.square-k.result in
+    let from = c.start-from.result in
+    let many : from + k - from ≡ k = omega arith in
+    let lent : k ≤ length a.noted.now = omega (arith, c.square-k.ensures.0, c.requires) in
+    let long : length c.copy_from_slice.new.self ≡ k = c.copy_from_slice.ensures.len ∙ length-take-le k a.noted.now lent in
+    let byte : (i : ℕ) → i < k → get_or (c.copy_from_slice.new.self ++ drop k a.noted.now) i 0 ≡ get_or a.s.bytes.now (from + i) 0 =
+    λ i l. get_or-append c.copy_from_slice.new.self (drop k a.noted.now) 0 i (omega (arith, long))
+    ∙ ap (λ y. get_or y i 0) c.copy_from_slice.ensures.after
+    ∙ get_or-take (from + k - from) (drop from a.s.bytes.now) i 0 (omega (arith, many))
+    ∙ get_or-drop from a.s.bytes.now i 0 in
+    (c.queued.ensures.0, c.queued.ensures.1, λ i l. byte i (omega (arith, c.square-k.ensures.0)) ∙ ap (λ j. get_or a.s.bytes.now (j + i) 0) c.start-from.ensures)

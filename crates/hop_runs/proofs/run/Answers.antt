@@ -37,9 +37,12 @@ loop-made-preserved c =
       omega arith,
     )
 
-pub returns-after-loop-made : goal.returns-after-loop-made
+pub returns : goal.returns
 unfolding made_of
-returns-after-loop-made c = let l = c.loop-made in ends _ _ _ _ _ _ (first_none _ _ (λ j b. l.invariant.5 j (omega arith)) ∙ omega arith) l.invariant.3 l.invariant.4
+returns c =
+    let l = c.loop-made in
+    let all : l.made ≡ c.args.k = omega (arith, l.invariant.0, c.loop-made-test.false) in
+    ends _ _ _ _ _ _ (first_none _ _ (λ j b. l.invariant.5 j (omega arith))) (rw (← all) l.invariant.3) (rw (← all) l.invariant.4)
 
 pub returns-then-waiting-eq0 : goal.returns-then-waiting-eq0
 unfolding made_of

@@ -1,6 +1,6 @@
 use mathlib.Core.Path.{◌≡◌}
 use mathlib.Core.Bool.{false}
-use Prim.Native.Nat.{ℕ, ◌≤◌, ◌<◌, ◌*◌, ◌-◌}
+use Prim.Native.Nat.{ℕ, ◌≤◌, ◌<◌, ◌*◌}
 use lib.Dec.{eqb}
 use lib.ListN.{length}
 use Rattle.hop_counts.specs.Counts.{queued}
@@ -16,6 +16,3 @@ invariant-loop-made l =
     × (l.deliveries ≡ delivered l.n l.made l.initial.s)
     × ((j : ℕ) → j < l.made → eqb (queued l.n (passes l.n j l.initial.s)) 0 ≡ false)
     × (length l.noted ≡ 1600)
-
-abbrev pub decreases-loop-made : goal.decreases-loop-made
-decreases-loop-made l = l.k - l.made

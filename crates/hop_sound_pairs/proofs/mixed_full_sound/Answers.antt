@@ -2,16 +2,20 @@
 use mathlib.Core.Path.{◌∙◌}
 use Prim.Native.Nat.{◌≤◌}
 use native.Mathlib.Omega.{arith}
-use borrow.Author.Rules.{rules}
+use Rattle.hop_seen.proofs.Seen.{full_here}
 use Rattle.hop_sound_pairs.proofs.Full.{distances_room, full_busy}
 use Rattle.hop_sound_pairs.proofs.mixed_full_sound.Goals as goal
 
 pub full-requires : goal.full-requires
 full-requires c =
     let pre = c.requires in
-    let enough : 8 ≤ c.args.n = omega arith in
-    let room = distances_room _ _ enough pre.2 in
-    (search rules, omega (arith, c.row2.ensures.0, room, pre.0.fits), search rules, search rules)
+    let enough : 8 ≤ c.args.s.n = omega arith in
+    let room = distances_room _ _ enough pre.1 in
+    (omega (arith, c.from_row2.ensures.long, room, c.args.s.room.fits), omega (arith, c.row3.ensures.long, c.args.s.room.most), omega (arith, c.row3.ensures.long, c.row3-2.ensures.long))
 
 pub returns : goal.returns
-returns c = c.full.ensures ∙ rw (c.row2.ensures.0, c.row3.ensures.0, c.row3-2.ensures.0) (full_busy _ _ _ _)
+returns c =
+    let pre = c.requires in
+    let enough : 8 ≤ c.args.s.n = omega arith in
+    let room = distances_room _ _ enough pre.1 in
+    c.full.ensures ∙ full_here (omega (arith, room, c.args.s.room.fits, c.args.s.room.most)) c.from_row2.ensures c.row3.ensures c.row3-2.ensures ∙ full_busy _ _ _ _

@@ -4,17 +4,17 @@ use borrow.Author.Rules.{rules}
 use Rattle.hop_sound_pairs.proofs.Ordered.{busy_over, busy_below, busy_told}
 use Rattle.hop_sound_pairs.proofs.ordered_sound.Goals as goal
 
-pub returns-then-n-get3 : goal.returns-then-n-get3
-returns-then-n-get3 c =
+pub returns-then-s-get3 : goal.returns-then-s-get3
+returns-then-s-get3 c =
     let pre = c.requires in
-    busy_over _ _ _ _ _ pre.4 pre.5 c.get3.ensures.0 c.if-n-get3.true
+    busy_over _ _ _ _ _ pre.3 pre.4 c.get3.ensures.0 c.if-s-get3.true
 
 pub told_sound-requires : goal.told_sound-requires
 told_sound-requires c =
     let pre = c.requires in
-    (search rules, search rules, search rules, search rules, busy_below _ _ _ _ _ pre.4 pre.5 c.get3.ensures.0 c.if-n-get3.false)
+    (search rules, search rules, search rules, busy_below _ _ _ _ _ pre.3 pre.4 c.get3.ensures.0 c.if-s-get3.false)
 
 pub returns : goal.returns
 returns c =
     let pre = c.requires in
-    c.told_sound.ensures ∙ busy_told _ _ _ _ _ pre.4 pre.5 c.get3.ensures.0 c.if-n-get3.false
+    c.told_sound.ensures ∙ busy_told _ _ _ _ _ pre.3 pre.4 c.get3.ensures.0 c.if-s-get3.false

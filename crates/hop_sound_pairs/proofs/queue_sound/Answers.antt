@@ -7,10 +7,10 @@ pub returns-then-m-eq0 : goal.returns-then-m-eq0
 unfolding queue_sound
 returns-then-m-eq0 c = simp (← c.get2-m.ensures.0, eq-eqb _ _ c.if-m-eq0.true, ← c.idle_sound.ensures)
 
-pub returns-then-n-m : goal.returns-then-n-m
+pub returns-then-s-m : goal.returns-then-s-m
 unfolding queue_sound
-returns-then-n-m c = simp (← c.get2-m.ensures.0, ne_eqb _ _ c.if-m-eq0.false, lt-leb _ _ c.if-n-m.true)
+returns-then-s-m c = simp (← c.get2-m.ensures.0, ne_eqb _ _ c.if-m-eq0.false, lt-leb _ _ c.if-s-m.true)
 
 pub returns : goal.returns
 unfolding queue_sound
-returns c = simp (← c.get2-m.ensures.0, ne_eqb _ _ c.if-m-eq0.false, le-leb _ _ c.if-n-m.false, ← c.busy_sound.ensures)
+returns c = simp (← c.get2-m.ensures.0, ne_eqb _ _ c.if-m-eq0.false, le-leb _ _ c.if-s-m.false, ← c.busy_sound.ensures)

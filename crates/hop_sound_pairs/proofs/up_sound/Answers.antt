@@ -1,4 +1,5 @@
 -- `up_sound` meets its contract: each way out is a case of the test. Assumes nothing.
+use Rattle.hop_sound_rows.proofs.SoundTests.{allow_here}
 use Rattle.hop_sound_pairs.specs.Pairs.{up_sound}
 use Rattle.hop_sound_pairs.proofs.up_sound.Goals as goal
 
@@ -8,4 +9,4 @@ returns-then-not-waiting_sound c = simp (← c.waiting_sound.ensures, c.if-not-w
 
 pub returns : goal.returns
 unfolding up_sound
-returns c = simp (← c.waiting_sound.ensures, c.if-not-waiting_sound.false, ← c.row3-views.ensures.0, ← c.row2.ensures.0, ← c.row2-2.ensures.0, ← c.all_allow.ensures)
+returns c = simp (← c.waiting_sound.ensures, c.if-not-waiting_sound.false, ← allow_here c.args.w c.row3.ensures c.row2.ensures c.row2-2.ensures, ← c.allow.ensures)

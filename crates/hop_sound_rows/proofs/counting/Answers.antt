@@ -1,24 +1,16 @@
 -- `counting` meets its contract: the mark is `every` of the bytes passed. Assumes nothing.
-use mathlib.Core.Path.{sym, ◌∙◌}
-use native.Mathlib.Omega.{arith}
-use borrow.Author.Tests.{eq-eqb, ne_eqb}
-use Rattle.hop_rows.proofs.Every.{every_none, every_lost, every_stays, every_done}
+use mathlib.Core.Path.{refl, sym}
+use Rattle.hop_rows.proofs.Every.{every_none, every_next, every_done}
+use Rattle.hop_rows.proofs.Parts.{byte_of}
 use Rattle.hop_sound_rows.specs.SoundRows.{counting}
 use Rattle.hop_sound_rows.proofs.counting.Goals as goal
-use Rattle.hop_sound_rows.proofs.counting.Goals.{then-s-at, else-s-at}
 
 pub loop-i-init : goal.loop-i-init
-loop-i-init c = (omega arith, sym (every_none _))
+loop-i-init c = sym (every_none _)
 
 pub loop-i-preserved : goal.loop-i-preserved
-loop-i-preserved c = (
-  omega arith,
-  elim c.if-s-at.branch [
-    | then-s-at w ↦ w.ok-is ∙ every_lost _ _ (ne_eqb _ _ w.if-s-at.true)
-    | else-s-at w ↦ every_stays _ _ (w.ok-is ∙ c.loop-i.invariant.1) (eq-eqb _ _ w.if-s-at.false)
-  ],
-)
+loop-i-preserved c = every_next _ _ c.loop-i.invariant (rw (byte_of c.args.row.now c.loop-i.i) refl)
 
 pub returns : goal.returns
 unfolding counting
-returns c = every_done _ _ _ c.loop-i.invariant.1 c.loop-i.invariant.0 c.loop-i-test.false
+returns c = every_done _ _ _ c.loop-i.invariant c.loop-i.auto.i-end c.loop-i-test.false

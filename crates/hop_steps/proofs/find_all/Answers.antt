@@ -7,7 +7,7 @@ use Rattle.hop_steps.specs.Steps.{best}
 use Rattle.hop_steps.proofs.find_all.Goals as goal
 
 pub loop-w-init : goal.loop-w-init
-loop-w-init c = (omega arith, refl, refl, λ v l. let q = c.requires.4 v l in (rw (q.0, q.1) (sym (loop_none _ _)), omega arith))
+loop-w-init c = (omega arith, refl, refl, λ v l. let q = c.requires.3 v l in (rw (q.0, q.1) (sym (loop_none _ _)), omega arith))
 
 pub loop-w-preserved : goal.loop-w-preserved
 loop-w-preserved c =

@@ -5,4 +5,4 @@ use Rattle.hop_steps.specs.Steps.{nearer}
 use Rattle.hop_steps.proofs.find_best.Given as goal
 
 abbrev pub invariant-loop-w : goal.invariant-loop-w
-invariant-loop-w l = (l.w ≤ l.n) × (l.b ≡ loop l.w (nearer l.n l.u l.v l.s) l.initial.b)
+invariant-loop-w l = (l.w ≤ l.s.n) × (l.b ≡ loop l.w (nearer l.s.n l.u l.v l.s.bytes.now) l.initial.b)

@@ -1,4 +1,5 @@
 -- `path` meets its contract. The path stays below n, the hop count falls, and the list has room for the rest. Assumes nothing.
+use mathlib.Core.Path.{◌∙◌}
 use Prim.Native.Nat.{◌<◌}
 use native.Mathlib.Omega.{arith}
 use lib.ListN.{length-set}
@@ -10,23 +11,23 @@ pub overflow_cast-list : goal.overflow_cast-list
 unfolding read_as
 overflow_cast-list t c =
     let x = c.args in
-    let (room, lv, fits, inside) = c.requires in
-    record { fits = omega (arith, here_below (read_as x.n x.s.now) x.u x.v x.hops inside, room.most) }
+    let (lv, fits, inside) = c.requires in
+    record { fits = omega (arith, here_below (read_as x.s.n x.s.bytes.now) x.u x.v x.hops inside, x.s.room.most) }
 
-pub route-next-requires : goal.route-next-requires
+pub route-requires : goal.route-requires
 unfolding read_as
-route-next-requires t c =
+route-requires t c =
     let x = c.args in
-    let (room, lv, fits, inside) = c.requires in
-    let lu = here_below (read_as x.n x.s.now) x.u x.v x.hops inside in
-    (room, omega (arith, lu, lv), omega (arith, lu, lv))
+    let (lv, fits, inside) = c.requires in
+    let lu = here_below (read_as x.s.n x.s.bytes.now) x.u x.v x.hops inside in
+    (omega (arith, lu, lv), omega (arith, lu, lv))
 
 pub path-requires : goal.path-requires
 path-requires t c =
     let x = c.args in
-    let (room, lv, fits, inside) = c.requires in
+    let (lv, fits, inside) = c.requires in
     let more : 0 < x.hops = omega arith in
-    let next = c.route-next.ensures.downstream in (
+    let next = (c.from-next.ensures ∙ c.route.ensures.downstream) in (
       omega (arith, c.decreases, more),
-      (room, lv, omega (arith, length-set x.list.now x.at x.u, fits, more), rw next (next_inside (read_as x.n x.s.now) x.u x.v x.hops more inside)),
+      (lv, omega (arith, length-set x.list.now x.at x.u, fits, more), rw next (next_inside (read_as x.s.n x.s.bytes.now) x.u x.v x.hops more inside)),
     )

@@ -10,12 +10,12 @@ pub returns-then-list-hops : goal.returns-then-list-hops
 unfolding shown
 returns-then-list-hops c =
     let x = c.args in
-    let t = read_as x.n x.s.now in
+    let t = read_as x.s.n x.s.bytes.now in
     handed_short (path (along t x.u x.v x.hops)) x.list.now (omega (arith, c.if-list-hops.true, length_along t x.u x.v x.hops))
 
 pub returns : goal.returns
 returns c =
     let x = c.args in
-    let t = read_as x.n x.s.now in
+    let t = read_as x.s.n x.s.bytes.now in
     let long = length_along t x.u x.v x.hops in
     path_handed (along t x.u x.v x.hops) x.list.now (omega (arith, c.if-list-hops.false, long)) (omega (arith, long)) c.path.ensures

@@ -12,18 +12,18 @@ pub returns-then-list-joined : goal.returns-then-list-joined
 unfolding shown
 returns-then-list-joined c =
     let x = c.args in
-    handed_short (set (joined_to (read_as x.n x.s.now) x.u)) x.list.now (omega (arith, c.if-list-joined.true, c.joined_to-joined.ensures.1))
+    handed_short (set (joined_to (read_as x.s.n x.s.bytes.now) x.u)) x.list.now (omega (arith, c.if-list-joined.true, c.joined_to-joined.ensures.1))
 
 pub overflow_cast-result : goal.overflow_cast-result
 unfolding read_as
 overflow_cast-result c =
     let x = c.args in
-    let most = length_joined_to (read_as x.n x.s.now) x.u in
-    record { fits = omega (arith, c.requires.0.most, most, c.joined_to-joined.ensures.1) }
+    let most = length_joined_to (read_as x.s.n x.s.bytes.now) x.u in
+    record { fits = omega (arith, c.args.s.room.most, most, c.joined_to-joined.ensures.1) }
 
 pub returns : goal.returns
 returns c =
     let x = c.args in
     let joined = c.joined_to-joined.ensures in
-    let l = joined_to (read_as x.n x.s.now) x.u in
+    let l = joined_to (read_as x.s.n x.s.bytes.now) x.u in
     set_handed l x.list.now (omega (arith, c.if-list-joined.false, joined.1)) joined.1 (c.put_set.ensures ∙ ap (sets x.list.now 0) joined.0)

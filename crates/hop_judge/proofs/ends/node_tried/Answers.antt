@@ -1,12 +1,13 @@
--- `ends::node_tried` meets its contract: after b turns the pairs with nodes below b are counted. Assumes nothing.
-use mathlib.Core.Path.{sym}
+-- `ends::node_tried` meets its contract: those that are tried are counted. Assumes nothing.
 use native.Mathlib.Omega.{arith}
-use Rattle.hop_laws.proofs.Words.{sum_none}
-use Rattle.hop_cells.proofs.Loops.{sum_turn}
+use borrow.Author.Rules.{rules}
+use Rattle.hop_rule.specs.Stored.{read_as}
+use Rattle.hop_rule.specs.Worth.{tried}
+use Rattle.hop_cells.proofs.Chains.{counted, passing_most}
 use Rattle.hop_judge.proofs.ends.node_tried.Goals as goal
 
-pub loop-b-init : goal.loop-b-init
-loop-b-init c = (omega arith, omega arith, sym (sum_none _))
-
-pub loop-b-preserved : goal.loop-b-preserved
-loop-b-preserved c = (omega arith, omega arith, sum_turn _ _ c.loop-b.invariant.2 c.pair_tried-sum.ensures.0)
+pub returns : goal.returns
+returns c =
+    let a = c.args in
+    let e = counted _ a.s.n (tried (read_as a.s.n a.s.bytes.now) a.a) c.filter.ensures.source c.filter.ensures.closure (λ x b q k. search rules) c.count.ensures.ran in
+    (e, omega (arith, e, passing_most a.s.n (tried (read_as a.s.n a.s.bytes.now) a.a)))

@@ -1,14 +1,8 @@
--- `nodes::pasts_sound` meets its contract: every receiver passed is sound, or the way out is taken. Assumes nothing.
-use mathlib.Core.Path.{sym, ◌∙◌}
-use native.Mathlib.Omega.{arith}
-use Rattle.hop_rows.proofs.Every.{every_none, every_stays, every_fails}
+-- `nodes::pasts_sound` meets its contract: every receiver is asked. Assumes nothing.
+use borrow.Author.Rules.{rules}
+use Rattle.hop_rows.proofs.Every.{every_all}
+use Rattle.hop_sound.specs.Check.{past_sound}
 use Rattle.hop_sound.proofs.nodes.pasts_sound.Goals as goal
 
-pub loop-u-init : goal.loop-u-init
-loop-u-init c = (omega arith, sym (every_none _))
-
-pub returns-then-not-past_sound : goal.returns-then-not-past_sound
-returns-then-not-past_sound c = every_fails _ _ _ c.loop-u-test.true (sym c.past_sound.ensures ∙ c.if-not-past_sound.true)
-
-pub loop-u-preserved : goal.loop-u-preserved
-loop-u-preserved c = (omega arith, every_stays _ _ c.loop-u.invariant.1 (sym c.past_sound.ensures ∙ c.if-not-past_sound.false))
+pub returns : goal.returns
+returns c = every_all c.args.s.n (past_sound c.args.s.n c.args.s.bytes.now c.args.w) _ _ _ c.all.ensures.ran (λ u b q k. search rules)

@@ -11,22 +11,22 @@ pub returns-then-u-v : goal.returns-then-u-v
 unfolding route_sound
 returns-then-u-v c = simp (← c.get2-d.ensures.0, ← c.get2-h.ensures.0, eq-eqb _ _ c.if-u-v.true, ne_eqb _ _ c.if-d-eq0.false)
 
-pub returns-then-d-n : goal.returns-then-d-n
+pub returns-then-d-s : goal.returns-then-d-s
 unfolding route_sound
-returns-then-d-n c = simp (← c.get2-d.ensures.0, ← c.get2-h.ensures.0, ne_eqb _ _ c.if-u-v.false, eq-eqb _ _ c.if-d-n.true)
+returns-then-d-s c = simp (← c.get2-d.ensures.0, ← c.get2-h.ensures.0, ne_eqb _ _ c.if-u-v.false, eq-eqb _ _ c.if-d-s.true)
 
-pub returns-then-n-d : goal.returns-then-n-d
+pub returns-then-s-d : goal.returns-then-s-d
 unfolding route_sound
-returns-then-n-d c = simp (← c.get2-d.ensures.0, ← c.get2-h.ensures.0, ne_eqb _ _ c.if-u-v.false, ne_eqb _ _ c.if-d-n.false, le-ltb _ _ c.if-n-d.true)
+returns-then-s-d c = simp (← c.get2-d.ensures.0, ← c.get2-h.ensures.0, ne_eqb _ _ c.if-u-v.false, ne_eqb _ _ c.if-d-s.false, le-ltb _ _ c.if-s-d.true)
 
-pub returns-then-n-h : goal.returns-then-n-h
+pub returns-then-s-h : goal.returns-then-s-h
 unfolding route_sound
-returns-then-n-h c = simp (← c.get2-d.ensures.0, ← c.get2-h.ensures.0, ne_eqb _ _ c.if-u-v.false, ne_eqb _ _ c.if-d-n.false, lt-ltb _ _ c.if-n-d.false, le-ltb _ _ c.if-n-h.true)
+returns-then-s-h c = simp (← c.get2-d.ensures.0, ← c.get2-h.ensures.0, ne_eqb _ _ c.if-u-v.false, ne_eqb _ _ c.if-d-s.false, lt-ltb _ _ c.if-s-d.false, le-ltb _ _ c.if-s-h.true)
 
 pub returns-then-get2-ne1 : goal.returns-then-get2-ne1
 unfolding route_sound
-returns-then-get2-ne1 c = simp (← c.get2-d.ensures.0, ← c.get2-h.ensures.0, ne_eqb _ _ c.if-u-v.false, ne_eqb _ _ c.if-d-n.false, lt-ltb _ _ c.if-n-d.false, lt-ltb _ _ c.if-n-h.false, ← c.get2.ensures.0, ne_eqb _ _ c.if-get2-ne1.true)
+returns-then-get2-ne1 c = simp (← c.get2-d.ensures.0, ← c.get2-h.ensures.0, ne_eqb _ _ c.if-u-v.false, ne_eqb _ _ c.if-d-s.false, lt-ltb _ _ c.if-s-d.false, lt-ltb _ _ c.if-s-h.false, ← c.get2.ensures.0, ne_eqb _ _ c.if-get2-ne1.true)
 
 pub returns : goal.returns
 unfolding route_sound
-returns c = simp (← c.get2-d.ensures.0, ← c.get2-h.ensures.0, ne_eqb _ _ c.if-u-v.false, ne_eqb _ _ c.if-d-n.false, lt-ltb _ _ c.if-n-d.false, lt-ltb _ _ c.if-n-h.false, ← c.get2.ensures.0, eq-eqb _ _ c.if-get2-ne1.false, ← c.get3.ensures.0)
+returns c = simp (← c.get2-d.ensures.0, ← c.get2-h.ensures.0, ne_eqb _ _ c.if-u-v.false, ne_eqb _ _ c.if-d-s.false, lt-ltb _ _ c.if-s-d.false, lt-ltb _ _ c.if-s-h.false, ← c.get2.ensures.0, eq-eqb _ _ c.if-get2-ne1.false, ← c.get3.ensures.0)

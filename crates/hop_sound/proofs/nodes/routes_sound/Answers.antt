@@ -1,14 +1,8 @@
--- `nodes::routes_sound` meets its contract: every destination passed is sound, or the way out is taken. Assumes nothing.
-use mathlib.Core.Path.{sym, ◌∙◌}
-use native.Mathlib.Omega.{arith}
-use Rattle.hop_rows.proofs.Every.{every_none, every_stays, every_fails}
+-- `nodes::routes_sound` meets its contract: every destination is asked. Assumes nothing.
+use borrow.Author.Rules.{rules}
+use Rattle.hop_rows.proofs.Every.{every_all}
+use Rattle.hop_sound.specs.Check.{route_sound}
 use Rattle.hop_sound.proofs.nodes.routes_sound.Goals as goal
 
-pub loop-v-init : goal.loop-v-init
-loop-v-init c = (omega arith, sym (every_none _))
-
-pub returns-then-not-route_sound : goal.returns-then-not-route_sound
-returns-then-not-route_sound c = every_fails _ _ _ c.loop-v-test.true (sym c.route_sound.ensures ∙ c.if-not-route_sound.true)
-
-pub loop-v-preserved : goal.loop-v-preserved
-loop-v-preserved c = (omega arith, every_stays _ _ c.loop-v.invariant.1 (sym c.route_sound.ensures ∙ c.if-not-route_sound.false))
+pub returns : goal.returns
+returns c = every_all c.args.s.n (route_sound c.args.s.n c.args.s.bytes.now c.args.u) _ _ _ c.all.ensures.ran (λ v b q k. search rules)

@@ -1,9 +1,0 @@
-use mathlib.Core.Path.{◌≡◌}
-use Prim.Native.Nat.{◌≤◌}
-use lib.Dec.{eqb}
-use Rattle.hop_rule.specs.Words.{every}
-use Rattle.hop_rows.specs.Rows.{byte}
-use Rattle.hop_rows.proofs.all_are.Given as goal
-
-abbrev pub invariant-loop-i : goal.invariant-loop-i
-invariant-loop-i l = (l.i ≤ l.k) × (l.ok ≡ every l.i (λ j. eqb (byte l.s l.at j) l.x))
