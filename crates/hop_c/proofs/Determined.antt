@@ -1,13 +1,12 @@
 -- Each line of specs/Determined: the law for the call's type of answer, at its outcome. Assumes nothing.
-use mathlib.Core.Path.{◌≡◌, refl, sym, ap, ap₂, ◌∙◌}
-use mathlib.Core.Logic.{◌≢◌}
+use mathlib.Core.Path.{◌≡◌, sym, ap, ap₂, ◌∙◌}
 use mathlib.Core.List.{List, []}
-use Prim.Native.Nat.{ℕ, ◌<◌}
-use native.Mathlib.Omega.{arith}
-use lib.ListN.{length}
+use Prim.Native.Nat.{ℕ}
 use Rattle.hop_rule.specs.Fixed.{Fixed, FixedAnswer}
 use Rattle.hop_rule.specs.Records.{place_after}
 use Rattle.hop_rule.specs.Calls.{Outcome}
+use Rattle.hop_rule.specs.Worth.{Valued}
+use Rattle.hop_rule.specs.Why.{Explained}
 use Rattle.hop_laws.proofs.Refused.{number_some}
 use Rattle.hop_records.proofs.Answers.{wrote_fixed}
 use Rattle.hop_core.proofs.Answers.{told_fixed, told_fixed_answer, passed_fixed, ran_fixed}
@@ -75,16 +74,16 @@ determined_for_c = record {
   hop_read_event = λ s p. both_fixed _ _;
 }
 
--- No refusal has that number.
+-- The number of what was refused is the refusal's, and none is 0.
 pub none_refused_with_0 : NoneRefusedWith0
 none_refused_with_0 = record {
-  pass = λ s t r z h. number_some r z;
-  run = λ s t k r z h. number_some r z;
-  route = λ s u v r z h. number_some r z;
-  queue_length = λ s w u r z h. number_some r z;
-  total_queued = λ s r z h. number_some r z;
-  status = λ s out left u r z h. number_some r z;
-  worth = λ s trial x list l r z h. number_some r z;
-  why = λ s list l u v r z h. number_some r z;
-  write_event = λ out left e r z h. number_some r z;
+  pass = λ s t r h z. number_some r (ap (λ (o : Outcome). o.number) h ∙ z);
+  run = λ s t k r h z. number_some r (ap (λ (o : Outcome). o.number) h ∙ z);
+  route = λ s u v r h z. number_some r (ap (λ (o : Outcome). o.number) h ∙ z);
+  queue_length = λ s w u r h z. number_some r (ap (λ (o : Outcome). o.number) h ∙ z);
+  total_queued = λ s r h z. number_some r (ap (λ (o : Outcome). o.number) h ∙ z);
+  status = λ s out left u r h z. number_some r (ap (λ (o : Outcome). o.number) h ∙ z);
+  worth = λ s trial x list l r h z. number_some r (ap (λ (v : Valued). v.number) h ∙ z);
+  why = λ s list l u v r h z. number_some r (ap (λ (e : Explained). e.number) h ∙ z);
+  write_event = λ out left e r h z. number_some r (ap (λ (o : Outcome). o.number) h ∙ z);
 }

@@ -1,9 +1,8 @@
 -- 01, 'What the contracts have to settle', for every public call: two answers, and two sets of bytes left in the buffers that it may write to, that its contract allows at the same entry are equal.
 -- One line for each call; what stands behind `Fixed` is the contract that the call's source cites, at its arguments. A buffer that is lent to be read only has one set of bytes. Proved in proofs/Determined.
-use Rattle.std.specs.Prelude.{◌≡◌, List, [], ℕ, ℤ, ⊤, Result, Err}
+use Rattle.std.specs.Prelude.{◌≡◌, ◌≢◌, List, [], ℕ, ℤ, ⊤, Result, Err}
 use Rattle.hop_rule.specs.declared.Event.{Event}
 use Rattle.hop_rule.specs.declared.Refused.{Refused}
-use Rattle.hop_rule.specs.Refused.{number}
 use Rattle.hop_rule.specs.Records.{Reading, read_event}
 use Rattle.hop_rule.specs.Calls as call
 use Rattle.hop_rule.specs.Calls.{outcome}
@@ -70,14 +69,14 @@ pub record DeterminedForC : Type 0 where
   pub hop_write_event : (out : List ℕ) (kind first second : ℕ) → Fixed (edge.Wrote (wrote_event kind first second out))
   pub hop_read_event : (s : List ℕ) (p : ℕ) → Fixed (edge.Read s p)
 
--- And no contract lets a call say that it is refused with 0, which means done: a node's route to itself, an empty queue, a pass at rest are values.
+-- And no contract lets a call be refused whose number is 0, which means done: a node's route to itself, an empty queue, a pass at rest are values.
 pub record NoneRefusedWith0 : Type 0 where
-  pub pass : (s t : List ℕ) (r : Refused) → number r ≡ 0 → Passed s (Err r) t → ⊥
-  pub run : (s t : List ℕ) (k : ℕ) (r : Refused) → number r ≡ 0 → Ran k s (Err r) t → ⊥
-  pub route : (s : List ℕ) (u v : ℕ) (r : Refused) → number r ≡ 0 → Directed u v s (Err r) → ⊥
-  pub queue_length : (s : List ℕ) (w u : ℕ) (r : Refused) → number r ≡ 0 → Asked (call.queue_length w u) s (Err r) → ⊥
-  pub total_queued : (s : List ℕ) (r : Refused) → number r ≡ 0 → Asked call.total_queued s (Err r) → ⊥
-  pub status : (s out left : List ℕ) (u : ℕ) (r : Refused) → number r ≡ 0 → Wrote (call.status u) s out (Err r) left → ⊥
-  pub worth : (s trial x : List ℕ) (list l : List ℤ) (r : Refused) → number r ≡ 0 → Worth s trial list (Err r) x l → ⊥
-  pub why : (s list l : List ℕ) (u v : ℕ) (r : Refused) → number r ≡ 0 → Why u v s list (Err r) l → ⊥
-  pub write_event : (out left : List ℕ) (e : Event) (r : Refused) → number r ≡ 0 → Writes (outcome (call.write_event e) [] out) (Err r) left → ⊥
+  pub pass : (s t : List ℕ) (r : Refused) → Passed s (Err r) t → (outcome call.pass s []).number ≢ 0
+  pub run : (s t : List ℕ) (k : ℕ) (r : Refused) → Ran k s (Err r) t → (outcome (call.run k) s []).number ≢ 0
+  pub route : (s : List ℕ) (u v : ℕ) (r : Refused) → Directed u v s (Err r) → (outcome (call.route u v) s []).number ≢ 0
+  pub queue_length : (s : List ℕ) (w u : ℕ) (r : Refused) → Asked (call.queue_length w u) s (Err r) → (outcome (call.queue_length w u) s []).number ≢ 0
+  pub total_queued : (s : List ℕ) (r : Refused) → Asked call.total_queued s (Err r) → (outcome call.total_queued s []).number ≢ 0
+  pub status : (s out left : List ℕ) (u : ℕ) (r : Refused) → Wrote (call.status u) s out (Err r) left → (outcome (call.status u) s out).number ≢ 0
+  pub worth : (s trial x : List ℕ) (list l : List ℤ) (r : Refused) → Worth s trial list (Err r) x l → (worth s trial list).number ≢ 0
+  pub why : (s list l : List ℕ) (u v : ℕ) (r : Refused) → Why u v s list (Err r) l → (why u v s list).number ≢ 0
+  pub write_event : (out left : List ℕ) (e : Event) (r : Refused) → Writes (outcome (call.write_event e) [] out) (Err r) left → (outcome (call.write_event e) [] out).number ≢ 0

@@ -18,7 +18,7 @@ pub fn nodes(s: &[u8]) -> usize
     usize::from(s[0])
 }
 
-// The bytes of a block of n², and of one of n³.
+// The bytes of a block of n², and of one of n³: the two shapes that blocks have.
 pub fn square(n: usize) -> usize
     requires { n ≤ 40 }
     ensures { (result ≡ n * n) × (result ≤ 1600) }
@@ -86,7 +86,8 @@ fn at(n: usize, t: Table, i: usize) -> usize
 }
 
 // The bytes of a state and its node count, which they have room for: what is read. By value it is as fast as the bytes and the count by themselves.
-// What writes takes bytes and count apart: a struct of the two behind a `&mut` made a pass take 1.4 to 1.9 times as long.
+// What writes takes bytes and count apart: a struct of the two behind a `&mut` made a pass take 1.4 to 1.9 times as long, past the 0.4 of a careful Rust's time that it may take.
+// Nodes and blocks are asked for in each clause (`a < self.n`, `cells self.n t`): a type for either would have to carry n.
 #[derive(Clone, Copy)]
 pub struct Stored<'a> {
     pub bytes: &'a [u8],
@@ -94,7 +95,7 @@ pub struct Stored<'a> {
     pub ghost room: { Room n bytes.now },
 }
 
-// What a node has for a destination, hops and direction read at once (02, R-4).
+// What a node has for a destination, hops and direction read at once (02, R-4). 255 is no downstream, as in the stored form and in C.
 #[derive(Clone, Copy)]
 pub struct Way {
     pub distance: u8,

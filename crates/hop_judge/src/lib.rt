@@ -1,4 +1,5 @@
 // Refusals, in document 01's order: each function judges what the one that it calls left open. No byte is changed, and the first byte is read here only.
+// The answer is the node count and not a `Stored`, which the calls that write would take apart again.
 #![tactic(auto)]
 
 mod ends;

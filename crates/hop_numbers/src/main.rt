@@ -1,48 +1,43 @@
 // Document 01's numbers that are run and compared, and not proved one by one: the square at rest; all 780 links of 40 up, nothing delivered; a line of 40 to rest.
+// What changes the state or prints at each turn is a loop: of what a closure has changed a proof knows nothing after `for_each`.
 #![tactic(auto)]
 
 ghost use Rattle.std.specs.Prelude.{◌<◌};
 
 use hop_rule::Refused;
-use std::io;
-
-// A number and a blank, or a line feed.
-fn print(rt: &impl Print, x: u32, ends: &str) -> io::Result<()> {
-    print!(rt; "{x}{ends}")
-}
-
-// Two numbers, as a run and a route have them.
-fn print_two(rt: &impl Print, x: u32, y: u32, ends: &str) -> io::Result<()> {
-    print(rt, x, " ")?;
-    print(rt, y, ends)
-}
+use std::{fmt, io};
 
 // A refusal shows as its number behind a minus sign.
-fn print_refusal(rt: &impl Print, r: Refused, ends: &str) -> io::Result<()> {
-    print!(rt; "-")?;
-    print(rt, u32::from(r), ends)
+#[derive(Drop)]
+struct Minus(Refused);
+
+impl fmt::Display for Minus {
+    fn fmt<W: fmt::Write>(&self, f: &mut fmt::Formatter<W>) -> fmt::Result {
+        let number = u32::from(self.0);
+        write!(f, "-{number}")
+    }
 }
 
 fn print_answer(rt: &impl Print, a: Result<u32, Refused>, ends: &str) -> io::Result<()> {
     match a {
-        Ok(x) => print(rt, x, ends),
-        Err(r) => print_refusal(rt, r, ends),
+        Ok(x) => print!(rt; "{x}{ends}"),
+        Err(r) => print!(rt; "{}{ends}", Minus(r)),
     }
 }
 
 // The passes made and the entries delivered.
 fn print_run(rt: &impl Print, s: &mut [u8]) -> io::Result<()> {
     match hop_core::run(s, 255) {
-        Ok(ran) => print_two(rt, ran.passes, ran.deliveries, "\n"),
-        Err(r) => print_refusal(rt, r, "\n"),
+        Ok(ran) => println!(rt; "{} {}", ran.passes, ran.deliveries),
+        Err(r) => println!(rt; "{}", Minus(r)),
     }
 }
 
 // The hops and the neighbour to send through.
 fn print_route(rt: &impl Print, s: &[u8], u: usize, v: usize, ends: &str) -> io::Result<()> {
     match hop_ask::route(s, u, v) {
-        Ok(way) => print_two(rt, u32::from(way.distance), u32::from(way.downstream), ends),
-        Err(r) => print_refusal(rt, r, ends),
+        Ok(way) => print!(rt; "{} {}{ends}", way.distance, way.downstream),
+        Err(r) => print!(rt; "{}{ends}", Minus(r)),
     }
 }
 
@@ -93,9 +88,9 @@ fn print_status(rt: &impl Print, s: &[u8], u: usize) -> io::Result<()> {
     let mut out = [0u8; 14];
     print_answer(rt, hop_ask::status(s, u, &mut out), " ")?;
     for x in &out[..13] {
-        print(rt, u32::from(*x), " ")?;
+        print!(rt; "{x} ")?;
     }
-    print(rt, u32::from(out[13]), "\n")
+    println!(rt; "{}", out[13])
 }
 
 fn print_statuses(rt: &impl Print, s: &[u8]) -> io::Result<()> {

@@ -1,5 +1,7 @@
 // One queue of a stored state: sending into it, taking its head, filling and emptying it.
 // What `as` narrows here is proved to fit; `try_from` would add an error that cannot be.
+// Bytes that are written come apart from their count: see `Stored` in hop_cells for what a struct of the two costs.
+// What writes to a buffer at each turn is a loop: of what a closure has changed a proof knows nothing after `for_each`.
 #![tactic(auto)]
 
 ghost use Rattle.std.specs.Prelude.{◌≡◌, ◌+◌, ◌*◌, ◌<◌, ◌≤◌};
@@ -90,7 +92,7 @@ fn shift(s: &mut [u8], n: usize, t: Table, w: usize, u: usize, k: usize, p: usiz
 }
 
 // The first k entries of a row leave, the m behind them move up, and the places that fall free become 0.
-// A loop: with `copy_within` a pass over full queues took 1.05 of its time at 10 nodes.
+// A loop: with `copy_within` a pass over full queues took 1.05 of its time at 10 nodes, and no row may get slower (docs/PERFORMANCE.md).
 fn move_up(s: &mut [u8], n: usize, t: Table, w: usize, u: usize, k: usize, m: usize)
     requires { Room n s.old × (w < n) × (u < n) × (m + k ≤ n) × (cells n t ≡ n * n * n) }
     ensures { s.new ≡ queue.move_up n t w u k m s.old }

@@ -40,7 +40,7 @@ pub fn read_next<'s, 'a>(r: &'s mut Reader<'a>) -> Result<Option<(Event, usize)>
     Ok(found)
 }
 
-// One record through a reader, for callers that keep bytes and place themselves.
+// One record through a reader, for callers that keep bytes and place themselves, as C's do.
 pub fn read_from(s: &[u8], at: usize) -> Step
     ensures { result ≡ step_at s.now at }
 {

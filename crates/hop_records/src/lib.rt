@@ -1,4 +1,5 @@
 // Event and status records as bytes, written and read. The one place in the code that knows an event's kind, length and numbers.
+// What `as` narrows here is proved to fit; `try_from` would add an error that cannot be. A place goes beside the bytes where records are read one after another: 01's reader keeps it.
 #![tactic(auto)]
 
 ghost use Rattle.std.specs.Prelude.{◌≡◌, true, [], ◌∷◌, ◌+◌, ◌*◌, ◌<◌, ◌≤◌, length};
@@ -38,7 +39,7 @@ impl From<Event> for Numbers {
     }
 }
 
-// One little-endian 16-bit number at a place. Byte by byte: with copy_from_slice writing a record takes an eighth longer.
+// One little-endian 16-bit number at a place. Byte by byte: with `copy_from_slice` a thousand records took 1.18 of a careful Rust's time, and 1.15 is the bar (docs/PERFORMANCE.md).
 #[tactic(auto, unfolding(hop_rule::specs::Records::words))]
 fn write_word(out: &mut [u8], at: usize, x: u16)
     requires { at + 2 ≤ length out.old }
@@ -176,7 +177,7 @@ fn read_known(kind: u16, s: &[u8], place: usize) -> Result<Option<(Event, usize)
     Ok(Some((event_at(kind, s, place + 4), place + whole)))
 }
 
-// Reading where at least a length and a kind are left. A way for each kind, in which its length is fixed: with one way for all, whose length is looked up, the next record waits for it, and reading takes a twentieth longer.
+// Reading where at least a length and a kind are left. A way for each kind, in which its length is fixed: with one way for all, whose length is looked up, the next record waits for it, and a thousand took 0.75 of a careful Rust's time instead of 0.72.
 #[tactic(auto, unfolding(hop_rule::specs::Records::read_event, hop_rule::specs::Records::known))]
 fn read_record(s: &[u8], place: usize) -> Result<Option<(Event, usize)>, Refused>
     requires { place + 4 ≤ length s.now }

@@ -1,20 +1,23 @@
 -- What the public calls answer, as the numbers that are printed. Assumes nothing.
+use Rattle.std.specs.Prelude.{Result, Ok, Err}
+use Rattle.std.specs.Result.{result_unwrap_or}
 use mathlib.Core.Path.{◌≡◌, refl, ap}
 use mathlib.Core.List.{List, []}
 use Prim.Native.Nat.{ℕ}
 use lib.ListN.{take, length-append}
 use Rattle.hop_text.proofs.Writing.{sets_append}
 use Rattle.hop_rule.specs.declared.Event.{Event}
-use Rattle.hop_rule.specs.Calls.{Call, make, Outcome, outcome}
+use Rattle.hop_rule.specs.declared.Refused.{Refused}
+use Rattle.hop_rule.specs.Calls.{Call, make, total_queued, Outcome, answer_at, outcome}
+use Rattle.hop_ask.specs.Answers.{asked}
 use Rattle.hop_records.specs.declared.Numbers.{Numbers}
 use Rattle.hop_records.specs.Writing.{numbers_of}
 use Rattle.hop_text.specs.Text.{event_line}
 use Rattle.hop_replay.specs.Replay.{call_of, queued, applied_line, events_of, played}
 
--- An event is applied by its call, and the number that is printed is the outcome's.
-pub applied : (e : Event) (s : List ℕ) {c : Call} {o : Outcome} → call_of e ≡ c → o ≡ outcome c s [] → {x : ℕ} → x ≡ o.number
-    → (x ≡ (outcome (call_of e) s []).number) × (o.bytes ≡ (outcome (call_of e) s []).bytes)
-applied e s h k n = rw (h, ← k) (n, refl)
+-- An event is applied by its call.
+pub applied : (e : Event) (s : List ℕ) {c : Call} {o : Outcome} → call_of e ≡ c → o ≡ outcome c s [] → (o.number ≡ (outcome (call_of e) s []).number) × (o.bytes ≡ (outcome (call_of e) s []).bytes)
+applied e s h k = rw (h, ← k) (refl, refl)
 
 -- Its line is made of these four numbers.
 pub applied_line_is : (ordinal : ℕ) (e : Event) (s : List ℕ) {p : Numbers} {code waits : ℕ} {t : List ℕ}
@@ -33,3 +36,9 @@ played_is script buffer h k = rw (h, k)
 
 -- With these the check finds that header, events and routes are the whole text.
 pub ruleset playing = (played_is, sets_append, length-append)
+
+-- The total queued, 0 where asking for it is refused.
+pub total_is : (s : List ℕ) (a : Result ℕ Refused) → asked a s [] ≡ outcome total_queued s [] → result_unwrap_or a 0 ≡ queued s
+unfolding queued
+total_is s (Ok x) h = ap (answer_at 0) h
+total_is s (Err r) h = ap (answer_at 0) h

@@ -1,14 +1,13 @@
 -- The text has at most 92,072 bytes: a header of 23, 4,097 event lines of 17, and 1,600 `d` lines of 14. Assumes nothing.
 use Rattle.std.specs.Prelude.{Some, None, Ok, Err}
-use mathlib.Core.Path.{◌≡◌, refl, subst}
+use mathlib.Core.Path.{◌≡◌, refl}
 use mathlib.Core.Logic.{◌⊎◌, inl, inr}
-use mathlib.Core.Bool.{Bool, true, false, cond, not}
+use mathlib.Core.Bool.{Bool, true, false, cond}
 use mathlib.Core.List.{List, [], ◌∷◌}
 use Prim.Native.Nat.{ℕ, zero, suc, ◌+◌, ◌*◌, ◌-◌, ◌≤◌, ◌<◌}
 use native.Mathlib.Nat.{le_refl, suc-mul}
 use native.Mathlib.Decide.{ℕ_discrete, dec_lt}
 use native.Mathlib.Omega.{arith}
-use lib.Dec.{eqb, ltb}
 use lib.ListN.{length, take, length-append, length-take}
 use Rattle.hop_rule.specs.declared.Event.{Event}
 use Rattle.hop_rule.specs.declared.Event.TheVariants.{Make, Up, Down, Deliver, Pass, Notice}
@@ -17,7 +16,7 @@ use Rattle.hop_rule.specs.Words.{joined}
 use Rattle.hop_rule.specs.State.{State}
 use Rattle.hop_rule.specs.Stored.{read_as, read}
 use Rattle.hop_rule.specs.Sound.{Sound}
-use Rattle.hop_rule.specs.Records.{Reading, word_at, known, length_of, read_event}
+use Rattle.hop_rule.specs.Records.{Reading, read_event}
 use Rattle.hop_rule.specs.Calls.{Refusal, make, check, total_queued, judge, refusals, answer_at, outcome}
 use Rattle.hop_laws.specs.Current.{Current}
 use Rattle.hop_laws.proofs.Refused.{number_within}

@@ -1,9 +1,11 @@
 // A script of records to the program's text: each event is applied by its public call and printed, and at the end every route.
 // A number of 32 bits goes to `usize` by `as`: there is no `From` for it.
+// What writes to a buffer at each turn is a loop: of what a closure has changed a proof knows nothing after `for_each`.
 #![tactic(auto)]
 
 ghost use Rattle.std.specs.Prelude.{◌≡◌, [], ◌≤◌, ◌<◌, take};
 ghost use Rattle.hop_rule.specs.Stored.{read_as};
+ghost use Rattle.hop_rule.specs.Refused.{code};
 ghost use Rattle.hop_rule.specs.Calls.{outcome};
 ghost use Rattle.hop_text.specs.Writing.{Ends, Puts, Wrote};
 ghost use Rattle.hop_replay.specs.Replay as replay;
@@ -14,21 +16,21 @@ use hop_cells::Stored;
 use hop_judge::judge_state;
 use hop_reader::read_from;
 use hop_records::Numbers;
-use hop_rule::{Event, code};
+use hop_rule::{Event, Refused, code};
 use hop_text::Page;
 
-// Applies an event, and answers its number, which is what the program prints of it: 0 where it is done.
+// Applies an event by its call; what a pass delivered is not printed.
 #[tactic(auto, unfolding(crate::specs::Replay::call_of), using(crate::proofs::Applied::applied))]
-fn apply(state: &mut [u8], e: Event) -> u32
-    ensures { (result ≡ (outcome (call_of e) state.old []).number) × (state.new ≡ (outcome (call_of e) state.old []).bytes) }
+fn apply(state: &mut [u8], e: Event) -> Result<(), Refused>
+    ensures { (code result ≡ (outcome (call_of e) state.old []).number) × (state.new ≡ (outcome (call_of e) state.old []).bytes) }
 {
     match e {
-        Event::Make(n) => code(hop_core::make(state, usize::from(n))),
-        Event::Up(a, b) => code(hop_core::up(state, usize::from(a), usize::from(b))),
-        Event::Down(a, b) => code(hop_core::down(state, usize::from(a), usize::from(b))),
-        Event::Deliver(w, u) => code(hop_core::deliver(state, usize::from(w), usize::from(u))),
-        Event::Pass => code(hop_core::pass(state)),
-        Event::Notice(a, b) => code(hop_core::notice(state, usize::from(a), usize::from(b))),
+        Event::Make(n) => hop_core::make(state, usize::from(n)),
+        Event::Up(a, b) => hop_core::up(state, usize::from(a), usize::from(b)),
+        Event::Down(a, b) => hop_core::down(state, usize::from(a), usize::from(b)),
+        Event::Deliver(w, u) => hop_core::deliver(state, usize::from(w), usize::from(u)),
+        Event::Pass => hop_core::pass(state).map(|_| ()),
+        Event::Notice(a, b) => hop_core::notice(state, usize::from(a), usize::from(b)),
     }
 }
 
@@ -36,10 +38,7 @@ fn apply(state: &mut [u8], e: Event) -> u32
 fn queued(state: &[u8]) -> usize
     ensures { result ≡ replay.queued state.now }
 {
-    match total_queued(state) {
-        Ok(total) => total as usize,
-        Err(_) => 0,
-    }
+    total_queued(state).unwrap_or(0) as usize
 }
 
 // Applies an event, and prints its line.
@@ -48,9 +47,9 @@ fn put_applied(state: &mut [u8], page: &mut Page<'_>, ordinal: usize, e: Event)
     requires { Ends (applied_line ordinal e state.old) page.old.at }
     ensures { Puts (applied_line ordinal e state.old) page.old page.new × (state.new ≡ (outcome (call_of e) state.old []).bytes) }
 {
-    let code = apply(state, e);
+    let number = code(apply(state, e)) as usize;
     let p = Numbers::from(e);
-    page.put_event(ordinal, p.kind as usize, code as usize, queued(state));
+    page.put_event(ordinal, p.kind as usize, number, queued(state));
 }
 
 // The records one after another, each through the reader: a refused event is printed and the next is applied, a refused record is printed and ends the reading.
@@ -108,9 +107,8 @@ fn put_routes(state: &[u8], page: &mut Page<'_>)
     requires { Ends (routes state.now) page.old.at }
     ensures { Puts (routes state.now) page.old page.new }
 {
-    match judge_state(state) {
-        Ok(n) => put_all_routes(Stored { bytes: state, n }, page),
-        Err(_) => (),
+    if let Ok(n) = judge_state(state) {
+        put_all_routes(Stored { bytes: state, n }, page);
     }
 }
 

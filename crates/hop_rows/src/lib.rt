@@ -19,7 +19,7 @@ fn part(s: Stored, t: Table, i: usize, k: usize) -> &[u8]
     &s.bytes[at..at + k]
 }
 
-// Row a of a block of n².
+// Row a of a block of n². The three below differ in how a row is named, and have `part` in common.
 pub fn row2(s: Stored, t: Table, a: usize) -> &[u8]
     requires { (a < s.n) × (cells s.n t ≡ s.n * s.n) }
     ensures { rows.IsRow s.entry.bytes.now (rows.row s.entry.n t a) s.entry.n result.now }

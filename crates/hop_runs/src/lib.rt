@@ -1,5 +1,7 @@
 // Passes and runs on the bytes of a stored state.
 // What `as` narrows here is proved to fit; `try_from` would add an error that cannot be.
+// Bytes that are written come apart from their count: see `Stored` in hop_cells for what a struct of the two costs.
+// What writes to a buffer at each turn is a loop: of what a closure has changed a proof knows nothing after `for_each`.
 #![tactic(auto)]
 
 ghost use Rattle.std.specs.Prelude.{◌≡◌, ℕ, ◌+◌, ◌*◌, ◌<◌, ◌≤◌, length, get_or};
@@ -24,8 +26,7 @@ pub struct Ran {
 }
 
 // The lengths of all queues, by sender and receiver, are noted; and how many entries that is.
-fn note(s: Stored, noted: &mut [u8]) -> u32
-    requires { s.n * s.n ≤ length noted.old }
+fn note(s: Stored, noted: &mut [u8; 1600]) -> u32
     ensures { (result ≡ counts.queued s.entry.n s.entry.bytes.now) × (result ≤ 408000) × ((i : ℕ) → i < s.entry.n * s.entry.n → get_or noted.new i 0 ≡ cell.get s.entry.n Lengths i s.entry.bytes.now) }
 {
     let k = square(s.n);
@@ -36,8 +37,8 @@ fn note(s: Stored, noted: &mut [u8]) -> u32
 
 // The queue at place i gives up as many entries as are noted for it.
 #[tactic(auto, unfolding(hop_steps::specs::Steps::drain))]
-fn pass_at(s: &mut [u8], n: usize, noted: &[u8], i: usize)
-    requires { Room n s.old × (n * n ≤ length noted.now) × (i < n * n) }
+fn pass_at(s: &mut [u8], n: usize, noted: &[u8; 1600], i: usize)
+    requires { Room n s.old × (i < n * n) }
     ensures { s.new ≡ runs.pass_at n noted.now i s.old }
 {
     if noted[i] != 0 {
@@ -47,8 +48,8 @@ fn pass_at(s: &mut [u8], n: usize, noted: &[u8], i: usize)
 
 // The k queues from place i on.
 #[tactic(auto, using(hop_laws::proofs::Words::loop_none, hop_laws::proofs::Words::loop_turn))]
-fn pass_some(s: &mut [u8], n: usize, noted: &[u8], i: usize, k: usize)
-    requires { Room n s.old × (n * n ≤ length noted.now) × (i + k ≤ n * n) }
+fn pass_some(s: &mut [u8], n: usize, noted: &[u8; 1600], i: usize, k: usize)
+    requires { Room n s.old × (i + k ≤ n * n) }
     ensures { s.new ≡ loop k (λ (j : ℕ). runs.pass_at n noted.now (i + j)) s.old }
 {
     for j in 0..k {
@@ -57,8 +58,8 @@ fn pass_some(s: &mut [u8], n: usize, noted: &[u8], i: usize, k: usize)
 }
 
 // Eight of them: mostly nothing is noted for any, and that is found out at once.
-fn pass_eight(s: &mut [u8], n: usize, noted: &[u8], i: usize)
-    requires { Room n s.old × (n * n ≤ length noted.now) × (i + 8 ≤ n * n) }
+fn pass_eight(s: &mut [u8], n: usize, noted: &[u8; 1600], i: usize)
+    requires { Room n s.old × (i + 8 ≤ n * n) }
     ensures { s.new ≡ loop 8 (λ (j : ℕ). runs.pass_at n noted.now (i + j)) s.old }
 {
     if all_are(&noted[i..i + 8], 0) {
@@ -67,9 +68,9 @@ fn pass_eight(s: &mut [u8], n: usize, noted: &[u8], i: usize)
     pass_some(s, n, noted, i, 8);
 }
 
-// The first 8 k queues.
-fn pass_eights(s: &mut [u8], n: usize, noted: &[u8], k: usize)
-    requires { Room n s.old × (n * n ≤ length noted.now) × (8 * k ≤ n * n) }
+// The first 8 k queues. By their place, since sender and receiver are its quotient and rest by n; chunks of `noted` would have to be counted beside.
+fn pass_eights(s: &mut [u8], n: usize, noted: &[u8; 1600], k: usize)
+    requires { Room n s.old × (8 * k ≤ n * n) }
     ensures { s.new ≡ loop (8 * k) (runs.pass_at n noted.now) s.old }
 {
     for g in 0..k {
@@ -78,8 +79,8 @@ fn pass_eights(s: &mut [u8], n: usize, noted: &[u8], k: usize)
 }
 
 // All queues, ascending by sender and then by receiver. What does not fill eight is the rest.
-fn pass_noted(s: &mut [u8], n: usize, noted: &[u8])
-    requires { Room n s.old × (n * n ≤ length noted.now) }
+fn pass_noted(s: &mut [u8], n: usize, noted: &[u8; 1600])
+    requires { Room n s.old }
     ensures { s.new ≡ loop (n * n) (runs.pass_at n noted.now) s.old }
 {
     let m = square(n);

@@ -1,5 +1,8 @@
 // The events on the bytes of a stored state: recompute, deliver, link up, one end's notice that a link is lost, link down by notices; and a fresh state.
 // What `as` narrows here is proved to fit; `try_from` would add an error that cannot be.
+// Bytes that are written come apart from their count: see `Stored` in hop_cells for what a struct of the two costs.
+// `Room` with nodes below n is all that these ask for: a type for a node would have to carry the count that it is below.
+// What writes to a buffer at each turn is a loop: of what a closure has changed a proof knows nothing after `for_each`.
 #![tactic(auto)]
 
 ghost use Rattle.std.specs.Prelude.{◌≡◌, ℕ, ◌+◌, ◌*◌, ◌<◌, ◌≤◌, length, get_or, set};
@@ -29,7 +32,7 @@ fn nearer(s: Stored, u: usize, v: usize, w: usize, b: Way) -> Way
     b
 }
 
-// The least distance of v at u, and the lowest neighbour that gives it.
+// The least distance of v at u, and the lowest neighbour that gives it. A loop: `nearer` goes on from what those below gave, and a fold of it reads no plainer.
 #[tactic(auto, unfolding(crate::specs::Steps::best), using(hop_laws::proofs::Words::loop_none, hop_laws::proofs::Words::loop_turn, hop_cells::proofs::Loops::loop_end))]
 fn find_best(s: Stored, u: usize, v: usize) -> Way
     requires { (u < s.n) × (v < s.n) }
@@ -216,14 +219,14 @@ pub fn link_up(s: &mut [u8], n: usize, a: usize, b: usize)
     offer_all(s, n, b, a);
 }
 
-// a where d is less than c, and otherwise b.
+// a where d is less than c, and otherwise b: of views it is the smaller, of neighbours the one that gave it.
 fn choose(d: u8, c: u8, a: u8, b: u8) -> u8
     ensures { result ≡ step.choose d c a b }
 {
     if d < c { a } else { b }
 }
 
-// Neighbour w is looked at for v: `views` has the least view so far, and `from` the neighbour that gave it.
+// Neighbour w is looked at for v: `views` has the least view so far, and `from` the neighbour that gave it. Two arrays and not one of `Way`, so that the loop below goes over bytes of one kind.
 fn nearer_at(s: Stored, u: usize, w: usize, v: usize, views: &mut [u8], from: &mut [u8])
     requires { (u < s.n) × (w < s.n) × (v < s.n) × (s.n ≤ length views.old) × (s.n ≤ length from.old) }
     ensures { (views.new ≡ step.lesser s.entry.n u w v s.entry.bytes.now views.old) × (from.new ≡ step.giver s.entry.n u w v s.entry.bytes.now views.old from.old) }

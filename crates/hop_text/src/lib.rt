@@ -5,7 +5,7 @@ ghost use Rattle.std.specs.Prelude.{◌≡◌, [], ◌∷◌};
 ghost use Rattle.hop_text.specs.Text.{digits, number, header, event_line, downstream_end, route_line};
 ghost use Rattle.hop_text.specs.Writing.{Ends, Puts};
 
-// A lent buffer, and the place of the next byte.
+// A lent buffer, and the place of the next byte. Not by `write!`, whose contract tells the text only where it gives `Ok`, and a page tells it always.
 #[derive(Drop)]
 pub struct Page<'a> {
     pub out: &'a mut [u8],

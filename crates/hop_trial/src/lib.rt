@@ -1,4 +1,5 @@
 // One trial of R-1, in a buffer that begins with a copy of the state: the link of a pair is turned, the trial is run to rest, what it tells is counted, and the copy is there again.
+// Bytes that are written come apart from their count: see `Stored` in hop_cells for what a struct of the two costs.
 #![tactic(auto)]
 
 ghost use Rattle.std.specs.Prelude.{◌≡◌, true, ◌<◌, ◌≤◌, length, take};
@@ -25,7 +26,7 @@ pub struct Found {
 }
 
 // The first k bytes of one buffer, written over those of another.
-// A loop: with `copy_from_slice` the archive would need memmove (README, 'What is trusted').
+// A loop: with `copy_from_slice` here the archive imports memmove, which README promises that it does not ('What is trusted').
 pub fn copy(from: &[u8], to: &mut [u8], k: usize)
     requires { (k ≤ length from.now) × (k ≤ length to.old) }
     ensures { to.new ≡ written (take k from.now) to.old }

@@ -10,12 +10,11 @@ use lib.ListN.{length}
 use lib.Seq.{sets}
 use Rattle.hop_rule.specs.declared.Refused.{Refused}
 use Rattle.hop_rule.specs.declared.Refused.TheVariants.{Short}
-use Rattle.hop_rule.specs.Refused.{number}
 use Rattle.hop_rule.specs.Route.{route}
 use Rattle.hop_rule.specs.Stored.{nodes, read_as, read}
 use Rattle.hop_rule.specs.Records.{written}
 use Rattle.hop_rule.specs.Calls.{Refusal, judge, no_node, not_at_rest, some_one_ended, short}
-use Rattle.hop_rule.specs.Why.{along, joined_to, Reason, Explained, path, set, reason, kind, shown, before_list, why_refusals, why_done, why}
+use Rattle.hop_rule.specs.Why.{along, joined_to, Reason, path, set, reason, kind, shown, before_list, why_refusals, why_done, why}
 use Rattle.hop_laws.proofs.Tests.{tells_lt, tells_false, choose_so, choose_else}
 use Rattle.hop_laws.proofs.Lists.{sets_written}
 use Rattle.hop_laws.proofs.Calls.{judge_applies, judge_next, judge_first, judge_passed}

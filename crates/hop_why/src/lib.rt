@@ -1,5 +1,6 @@
 // Why a node reaches a destination in so many hops, or not at all (02, R-3): the path, the set, and the public call, which does not count on its caller.
 // What `as` narrows here is proved to fit; `try_from` would add an error that cannot be.
+// What writes to a buffer at each turn is a loop: of what a closure has changed a proof knows nothing after `for_each`.
 #![tactic(auto)]
 
 ghost use Rattle.std.specs.Prelude.{◌≡◌, ◌+◌, ◌<◌, ◌≤◌, length};
@@ -37,7 +38,7 @@ fn path(s: Stored, list: &mut [u8], u: usize, v: usize, hops: usize, at: usize)
     }
 }
 
-// The nodes joined to u, as a set in one number, and how many they are. Its row is read once.
+// The nodes joined to u, as a set in one number, and how many they are: counted as they are found, since that a number's bits count them would be a law of its own. Its row is read once.
 #[derive(Clone, Copy)]
 struct Joined {
     set: u64,
@@ -59,7 +60,7 @@ fn joined_to(s: Stored, u: usize) -> Joined
     Joined { set, count }
 }
 
-// The numbers below n that are in a set, ascending, from the first place on.
+// The numbers below n that are in a set, ascending, from the first place on. The place counts them: what is not in the set takes none.
 fn put_set(list: &mut [u8], n: usize, set: u64)
     requires { (n ≤ 40) × (length (those n (seen.has set)) ≤ length list.old) }
     ensures { list.new ≡ sets list.old 0 (those n (seen.has set)) }

@@ -1,5 +1,6 @@
 // What each link is worth (02, R-1): the lines of all pairs that are tried, ascending, and the public call, which does not count on its caller.
 // What `as` narrows here is proved to fit; `try_from` would add an error that cannot be.
+// What writes to a buffer at each turn is a loop: of what a closure has changed a proof knows nothing after `for_each`.
 #![tactic(auto)]
 
 ghost use Rattle.std.specs.Prelude.{◌≡◌, ◌+◌, ◌*◌, ◌<◌, ◌≤◌, pos, length, set};
@@ -16,7 +17,7 @@ use hop_judge::judge_worth;
 use hop_rule::{Refused, Table};
 use hop_trial::{Found, copy, trial};
 
-// A signed number is put at place i of the list, and one that is not below zero.
+// A signed number is put at place i of the list, and one that is not below zero. The list's places are counted, since lines of seven numbers stand in it one behind the other.
 fn put(list: &mut [i32], i: usize, x: i32)
     requires { i < length list.old }
     ensures { list.new ≡ set list.old i x }
@@ -45,6 +46,7 @@ fn put_line(list: &mut [i32], at: usize, a: usize, b: usize, f: Found)
     put(list, at + 6, f.change);
 }
 
+// State, copy and list go through the three below side by side: one is read and two are written, and the fact about them, `Copied`, is of two of them.
 // The line of a and b, behind the i that stand; how many stand then. A pair whose two ends differ has none (02, R-5).
 fn line_of(
     s: &[u8],

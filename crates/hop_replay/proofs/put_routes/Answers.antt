@@ -9,5 +9,5 @@ invariant_of-put_all_routes c = record { room = room_now _ c.judge_state.ensures
 pub put_all_routes-requires : goal.put_all_routes-requires
 put_all_routes-requires c = rw (routes_go _ c.judge_state.ensures c.in-Ok.is) at c.requires
 
-pub returns-in-Err : goal.returns-in-Err
-returns-in-Err c = rw (routes_refused c.args.state.now c.judge_state.ensures c.in-Err.is) (puts_nothing _)
+pub returns-in_default : goal.returns-in_default
+returns-in_default c = rw (routes_refused c.args.state.now c.judge_state.ensures c.in_default.is) (puts_nothing _)

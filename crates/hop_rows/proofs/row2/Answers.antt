@@ -1,7 +1,0 @@
--- `row2` meets its contract: the row lies inside the block. Assumes nothing.
-use native.Mathlib.Omega.{arith}
-use Rattle.hop_rows.proofs.Inside.{row_ends}
-use Rattle.hop_rows.proofs.row2.Goals as goal
-
-pub part-requires : goal.part-requires
-part-requires c = let p = c.requires in (omega arith, rw p.1 (row_ends c.args.s.n p.0))
