@@ -1,19 +1,26 @@
 -- Each line of specs/Determined: the law for the call's type of answer, at its outcome. Assumes nothing.
-use mathlib.Core.Path.{◌≡◌, sym, ap, ap₂, ◌∙◌}
+use mathlib.Core.Path.{◌≡◌, refl, sym, ap, ap₂, ◌∙◌}
+use mathlib.Core.Logic.{◌≢◌}
 use mathlib.Core.List.{List, []}
-use Prim.Native.Nat.{ℕ}
+use Prim.Native.Nat.{ℕ, ◌<◌}
+use native.Mathlib.Omega.{arith}
+use lib.ListN.{length}
 use Rattle.hop_rule.specs.Fixed.{Fixed, FixedAnswer}
 use Rattle.hop_rule.specs.Records.{place_after}
-use Rattle.hop_rule.specs.Calls.{Outcome}
-use Rattle.hop_rule.specs.Worth.{Valued}
-use Rattle.hop_rule.specs.Why.{Explained}
+use Rattle.hop_rule.specs.Calls as call
+use Rattle.hop_rule.specs.Calls.{Call, Outcome, done, outcome}
+use Rattle.hop_rule.specs.Worth.{Valued, worth_done}
+use Rattle.hop_rule.specs.Why.{Explained, why_done}
+use Rattle.hop_laws.proofs.Calls.{done_answers}
 use Rattle.hop_laws.proofs.Refused.{number_some}
+use Rattle.hop_laws.proofs.Why.{why_is_done, why_number}
+use Rattle.hop_laws.proofs.Worth.{worth_is_done, worth_number}
 use Rattle.hop_records.proofs.Answers.{wrote_fixed}
 use Rattle.hop_core.proofs.Answers.{told_fixed, told_fixed_answer, passed_fixed, ran_fixed}
 use Rattle.hop_ask.proofs.Answers.{asked_fixed, asked_fixed_answer, directed_fixed}
 use Rattle.hop_worth.proofs.Answers.{worth_fixed}
 use Rattle.hop_why.proofs.Answers.{why_fixed}
-use Rattle.hop_c.specs.Determined.{Determined, DeterminedForC, NoneRefusedWith0}
+use Rattle.hop_c.specs.Determined.{Determined, DeterminedForC, NoneRefusedWith0, NoneDoneWithoutAnswer}
 
 -- A contract that says what the answer is, and one that says so of the answer and of what is left.
 is_fixed : {R : Type 0} (x : R) → FixedAnswer (λ (r : R). r ≡ x)
@@ -86,4 +93,28 @@ none_refused_with_0 = record {
   worth = λ s trial x list l r h z. number_some r (ap (λ (v : Valued). v.number) h ∙ z);
   why = λ s list l u v r h z. number_some r (ap (λ (e : Explained). e.number) h ∙ z);
   write_event = λ out left e r h z. number_some r (ap (λ (o : Outcome). o.number) h ∙ z);
+}
+
+-- An outcome with the number 0 and no answer is not that of a call that has one when it is done.
+has_answer : (c : Call) (s out : List ℕ) {o : Outcome} → 0 < length (done c s out).answers → o.number ≡ 0 → length o.answers ≡ 0 → o ≢ outcome c s out
+has_answer c s out some z none e =
+    let answers = ap (λ (p : Outcome). p.answers) e ∙ done_answers c s out (sym (ap (λ (p : Outcome). p.number) e) ∙ z) in
+    omega (arith, ap length answers)
+
+pub none_done_without_answer : NoneDoneWithoutAnswer
+unfolding done worth_done why_done
+none_done_without_answer = record {
+  pass = λ s t. has_answer call.pass s [] (omega arith) refl refl;
+  run = λ s t k. has_answer (call.run k) s [] (omega arith) refl refl;
+  route = λ s u v. has_answer (call.route u v) s [] (omega arith) refl refl;
+  queue_length = λ s w u. has_answer (call.queue_length w u) s [] (omega arith) refl refl;
+  total_queued = λ s. has_answer call.total_queued s [] (omega arith) refl refl;
+  status = λ s out left u. has_answer (call.status u) s out (omega arith) refl refl;
+  worth = λ s trial x list l e.
+      let z = sym (worth_number s trial list) ∙ sym (ap (λ (v : Valued). v.number) e) in
+      omega (arith, ap (λ (v : Valued). length v.answers) (e ∙ worth_is_done s trial list z));
+  why = λ s list l u v e.
+      let z = sym (why_number u v s list) ∙ sym (ap (λ (x : Explained). x.number) e) in
+      omega (arith, ap (λ (x : Explained). length x.answers) (e ∙ why_is_done u v s list z));
+  write_event = λ out left e. has_answer (call.write_event e) [] out (omega arith) refl refl;
 }

@@ -5,7 +5,7 @@ use Rattle.hop_rule.specs.declared.Event.{Event}
 use Rattle.hop_rule.specs.declared.Refused.{Refused}
 use Rattle.hop_rule.specs.Records.{Reading, read_event}
 use Rattle.hop_rule.specs.Calls as call
-use Rattle.hop_rule.specs.Calls.{outcome}
+use Rattle.hop_rule.specs.Calls.{refused, outcome}
 use Rattle.hop_rule.specs.Fixed.{Fixed, FixedAnswer}
 use Rattle.hop_rule.specs.Worth.{worth}
 use Rattle.hop_rule.specs.Why.{why}
@@ -80,3 +80,15 @@ pub record NoneRefusedWith0 : Type 0 where
   pub worth : (s trial x : List ℕ) (list l : List ℤ) (r : Refused) → Worth s trial list (Err r) x l → (worth s trial list).number ≢ 0
   pub why : (s list l : List ℕ) (u v : ℕ) (r : Refused) → Why u v s list (Err r) l → (why u v s list).number ≢ 0
   pub write_event : (out left : List ℕ) (e : Event) (r : Refused) → Writes (outcome (call.write_event e) [] out) (Err r) left → (outcome (call.write_event e) [] out).number ≢ 0
+
+-- And no outcome of these is 'done' without its answer, as a refusal has none: what a route to itself, an empty queue, a pass at rest give cannot be taken for that of a call that was refused. (Reading is done without one at the plain end.)
+pub record NoneDoneWithoutAnswer : Type 0 where
+  pub pass : (s t : List ℕ) → refused 0 t [] ≢ outcome call.pass s []
+  pub run : (s t : List ℕ) (k : ℕ) → refused 0 t [] ≢ outcome (call.run k) s []
+  pub route : (s : List ℕ) (u v : ℕ) → refused 0 s [] ≢ outcome (call.route u v) s []
+  pub queue_length : (s : List ℕ) (w u : ℕ) → refused 0 s [] ≢ outcome (call.queue_length w u) s []
+  pub total_queued : (s : List ℕ) → refused 0 s [] ≢ outcome call.total_queued s []
+  pub status : (s out left : List ℕ) (u : ℕ) → refused 0 s left ≢ outcome (call.status u) s out
+  pub worth : (s trial x : List ℕ) (list l : List ℤ) → record { number = 0; answers = []; trial = x; list = l } ≢ worth s trial list
+  pub why : (s list l : List ℕ) (u v : ℕ) → record { number = 0; answers = []; list = l } ≢ why u v s list
+  pub write_event : (out left : List ℕ) (e : Event) → refused 0 [] left ≢ outcome (call.write_event e) [] out

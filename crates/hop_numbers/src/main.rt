@@ -25,10 +25,16 @@ fn print_answer(rt: &impl Print, a: Result<u32, Refused>, ends: &str) -> io::Res
     }
 }
 
+// Two numbers, each in a write of its own.
+fn print_two(rt: &impl Print, x: u32, y: u32, ends: &str) -> io::Result<()> {
+    print!(rt; "{x} ")?;
+    print!(rt; "{y}{ends}")
+}
+
 // The passes made and the entries delivered.
 fn print_run(rt: &impl Print, s: &mut [u8]) -> io::Result<()> {
     match hop_core::run(s, 255) {
-        Ok(ran) => println!(rt; "{} {}", ran.passes, ran.deliveries),
+        Ok(ran) => print_two(rt, ran.passes, ran.deliveries, "\n"),
         Err(r) => println!(rt; "{}", Minus(r)),
     }
 }
@@ -36,7 +42,7 @@ fn print_run(rt: &impl Print, s: &mut [u8]) -> io::Result<()> {
 // The hops and the neighbour to send through.
 fn print_route(rt: &impl Print, s: &[u8], u: usize, v: usize, ends: &str) -> io::Result<()> {
     match hop_ask::route(s, u, v) {
-        Ok(way) => print!(rt; "{} {}{ends}", way.distance, way.downstream),
+        Ok(way) => print_two(rt, u32::from(way.distance), u32::from(way.downstream), ends),
         Err(r) => print!(rt; "{}{ends}", Minus(r)),
     }
 }

@@ -1,9 +1,8 @@
 -- A test of a slice is the test of the buffer at the place that the slice was cut from; and what the library's tests of slices find out. Assumes nothing.
 use mathlib.Core.Path.{◌≡◌, refl, sym, ap, ◌∙◌}
-use mathlib.Core.Logic.{◌⊎◌, inl, inr}
-use mathlib.Core.Bool.{and-true, and_assoc, Bool, true, false, not, ◌&&◌, ◌||◌}
+use mathlib.Core.Bool.{Bool, true, false, not, ◌&&◌, ◌||◌}
 use mathlib.Core.List.{List, [], ◌∷◌}
-use Prim.Native.Nat.{ℕ, ◌≤◌, ◌<◌}
+use Prim.Native.Nat.{ℕ, ◌<◌}
 use native.Mathlib.Omega.{arith}
 use lib.Dec.{eqb, ltb}
 use lib.ListN.{length, get_or}
@@ -17,37 +16,6 @@ use Rattle.hop_rows.proofs.Parts.{byte_of}
 not_or : (b c : Bool) → not (b || c) ≡ not b && not c
 not_or true c = refl
 not_or false c = refl
-
--- Two rows tested from the front, byte by byte.
-unfoldable pub paired : (ℕ → ℕ → Bool) → List ℕ → List ℕ → Bool
-paired p [] b = true
-paired p (x ∷ a) [] = true
-paired p (x ∷ a) (y ∷ b) = p x y && paired p a b
-
--- One turn, and the end.
-pub paired_next : (p : ℕ → ℕ → Bool) (ok : Bool) {r t : Bool} {x y : ℕ} {a b c d : List ℕ} → a ≡ x ∷ c → b ≡ y ∷ d → r ≡ p x y → ok && paired p a b ≡ t → (ok && r) && paired p c d ≡ t
-unfolding paired
-paired_next p ok {r} {c = c} {d = d} e f g h = and_assoc ok r (paired p c d) ∙ rw g (rw (e, f) at h)
-
-paired_over : (p : ℕ → ℕ → Bool) (a b : List ℕ) → (length a ≡ 0) ⊎ (length b ≡ 0) → paired p a b ≡ true
-unfolding paired
-paired_over p [] b e = refl
-paired_over p (x ∷ a) [] e = refl
-paired_over p (x ∷ a) (y ∷ b) (inl e) = absurd (omega arith)
-paired_over p (x ∷ a) (y ∷ b) (inr e) = absurd (omega arith)
-
-paired_every : (p : ℕ → ℕ → Bool) (a b : List ℕ) → length b ≤ length a → paired p a b ≡ every (length b) (λ i. p (get_or a i 0) (get_or b i 0))
-unfolding paired
-paired_every p a [] l = paired_over p a [] (inr refl) ∙ sym (every_none _)
-paired_every p [] (y ∷ b) l = absurd (omega arith)
-paired_every p (x ∷ a) (y ∷ b) l = rw (paired_every p a b (omega arith)) (sym (every_front (length b) _))
-
-pub paired_done : (p : ℕ → ℕ → Bool) (ok : Bool) (a b c d : List ℕ) → (length c ≡ 0) ⊎ (length d ≡ 0) → ok && paired p c d ≡ paired p a b → length b ≤ length a → ok ≡ every (length b) (λ i. p (byte a 0 i) (byte b 0 i))
-paired_done p ok a b c d over e l =
-    sym (and-true ok)
-    ∙ rw (paired_over p c d over) at e
-    ∙ paired_every p a b l
-    ∙ every_as (length b) (λ i l. rw (byte_of a i, byte_of b i) refl)
 
 -- The library looks from the front too.
 pub equal_every : (a b : List ℕ) → length a ≡ length b → pointwise eqb a b ≡ every (length a) (λ i. eqb (get_or a i 0) (get_or b i 0))

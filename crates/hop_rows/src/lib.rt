@@ -64,14 +64,14 @@ fn each<F: Fn(u8) -> bool>(row: &[u8], test: F) -> bool
     ok
 }
 
-// Does each byte of b pass together with that of a at its place?
+// Does each byte of b pass together with that of a at its place? By the place and not over `zip`: that form leaves up to 31 bytes of a row to be tested one by one, and a queue of 31 entries took 1.4 of its instructions to check.
 pub fn each_pair<F: Fn(u8, u8) -> bool>(a: &[u8], b: &[u8], test: F) -> bool
     requires { F.IsAlwaysCallable test × (length b.now ≤ length a.now) }
     ensures { (p : ℕ → ℕ → Bool) → ((x y : ℕ) (r : Bool) → F.post test x y r → r ≡ p x y) → result ≡ every (length b.now) (λ i. p (rows.byte a.now 0 i) (rows.byte b.now 0 i)) }
 {
     let mut ok = true;
-    for (x, y) in a.iter().zip(b) {
-        ok = ok & test(*x, *y);
+    for (i, y) in b.iter().enumerate() {
+        ok = ok & test(a[i], *y);
     }
     ok
 }

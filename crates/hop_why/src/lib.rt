@@ -25,11 +25,11 @@ pub enum Reason {
     Set(u32),
 }
 
-// The path from u to v over so many hops, from place `at` on: it calls itself on the downstream, the hop count falling.
+// The path from u to v over so many hops, from place `at` on: it calls itself on the downstream, the hop count falling. The state is lent: a `Stored` by value would be copied for each hop, and take 32 bytes of stack more.
 #[tactic(auto, using(crate::proofs::Paths::path_more, crate::proofs::Paths::path_one))]
-fn path(s: Stored, list: &mut [u8], u: usize, v: usize, hops: usize, at: usize)
-    requires { (v < s.n) × (at + hops < length list.old) × Stays (read_as s.n s.bytes.now) u v hops }
-    ensures { list.new ≡ sets list.old at (along (read_as s.entry.n s.entry.bytes.now) u v hops) }
+fn path(s: &Stored, list: &mut [u8], u: usize, v: usize, hops: usize, at: usize)
+    requires { (v < s.now.n) × (at + hops < length list.old) × Stays (read_as s.now.n s.now.bytes.now) u v hops }
+    ensures { list.new ≡ sets list.old at (along (read_as s.now.n s.now.bytes.now) u v hops) }
 {
     list[at] = u as u8;
     if 0 < hops {
@@ -82,7 +82,7 @@ fn show_path(s: Stored, list: &mut [u8], u: usize, v: usize, hops: usize) -> Res
     if list.len() <= hops {
         return Err(Refused::Short);
     }
-    path(s, list, u, v, hops, 0);
+    path(&s, list, u, v, hops, 0);
     Ok(Reason::Path(hops as u32 + 1))
 }
 

@@ -1,18 +1,18 @@
--- `each_pair` meets its contract: the mark and what is still to come are all pairs. Assumes nothing.
-use mathlib.Core.Logic.{inl, inr}
-use Rattle.hop_rows.proofs.Slices.{paired, paired_next, paired_done}
+-- `each_pair` meets its contract: the mark is `every` of the pairs passed. Assumes nothing.
+use mathlib.Core.Path.{sym}
+use Rattle.hop_rows.proofs.Every.{every_none, every_next, every_done}
+use Rattle.hop_rows.proofs.Parts.{byte_of}
 use Rattle.hop_rows.proofs.each_pair.Goals as goal
 
-pub loop-x-init : goal.loop-x-init
-loop-x-init g c = (c.requires.0, λ p h. cc)
+pub loop-i-init : goal.loop-i-init
+loop-i-init g c = (c.requires.0, λ p h. sym (every_none _))
 
-pub loop-x-preserved : goal.loop-x-preserved
-loop-x-preserved g c =
-    let step = c.in-Some.ensures.steps in
-    (c.loop-x.invariant.0, λ p h. paired_next p c.loop-x.ok {t = paired p c.args.a.now c.args.b.now} step.0 step.1 (h _ _ _ c.test-ok.ensures) (c.loop-x.invariant.1 p h))
+pub loop-i-preserved : goal.loop-i-preserved
+loop-i-preserved g c = (
+  c.loop-i.invariant.0,
+  λ p h. every_next _ _ (c.loop-i.invariant.1 p h)
+      (rw (← byte_of c.args.a.now c.loop-i.i) (rw (← byte_of c.args.b.now c.loop-i.i) (h _ _ _ c.test-ok.ensures))),
+)
 
 pub returns : goal.returns
-returns g c = λ p h.
-    paired_done p c.loop-x.ok c.args.a.now c.args.b.now c.loop-x.x-iterator.a.rest.now c.loop-x.x-iterator.b.rest.now
-    (elim c.in-None.ensures.steps [ inl z ↦ inl z.1.0 | inr z ↦ inr z.1.0 ])
-    (c.loop-x.invariant.1 p h) c.requires.1
+returns g c = λ p h. every_done _ _ _ (c.loop-i.invariant.1 p h) c.loop-i.auto.i-end c.loop-i-test.false

@@ -12,14 +12,14 @@ unfolding read_as
 overflow_cast-list t c =
     let x = c.args in
     let (lv, fits, inside) = c.requires in
-    record { fits = omega (arith, here_below (read_as x.s.n x.s.bytes.now) x.u x.v x.hops inside, x.s.room.most) }
+    record { fits = omega (arith, here_below (read_as x.s.now.n x.s.now.bytes.now) x.u x.v x.hops inside, x.s.now.room.most) }
 
 pub route-requires : goal.route-requires
 unfolding read_as
 route-requires t c =
     let x = c.args in
     let (lv, fits, inside) = c.requires in
-    let lu = here_below (read_as x.s.n x.s.bytes.now) x.u x.v x.hops inside in
+    let lu = here_below (read_as x.s.now.n x.s.now.bytes.now) x.u x.v x.hops inside in
     (omega (arith, lu, lv), omega (arith, lu, lv))
 
 pub path-requires : goal.path-requires
@@ -29,5 +29,5 @@ path-requires t c =
     let more : 0 < x.hops = omega arith in
     let next = (c.from-next.ensures ∙ c.route.ensures.downstream) in (
       omega (arith, c.decreases, more),
-      (lv, omega (arith, length-set x.list.now x.at x.u, fits, more), rw next (next_inside (read_as x.s.n x.s.bytes.now) x.u x.v x.hops more inside)),
+      (lv, omega (arith, length-set x.list.now x.at x.u, fits, more), rw next (next_inside (read_as x.s.now.n x.s.now.bytes.now) x.u x.v x.hops more inside)),
     )
