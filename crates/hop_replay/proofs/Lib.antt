@@ -1,5 +1,6 @@
 pub mod Applied
 pub mod Checked
+pub mod Input
 pub mod Left
 pub mod Routes
 pub mod Short

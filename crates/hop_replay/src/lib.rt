@@ -113,6 +113,7 @@ fn put_routes(state: &[u8], page: &mut Page<'_>)
 }
 
 // The part of a script that is read.
+#[tactic(auto, using(crate::proofs::Input::read_min, crate::proofs::Input::read_whole))]
 fn input_of(script: &[u8]) -> &[u8]
     ensures { result.now ≡ take 16384 script.now }
 {
