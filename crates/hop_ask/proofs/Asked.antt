@@ -1,5 +1,5 @@
 -- Each question, where it goes on: what the code reads or counts is the answer of the call's outcome. Assumes nothing.
-use Rattle.std.specs.Prelude.{Result, Ok}
+use Rattle.std.specs.Prelude.{Result, Ok, Err}
 use mathlib.Core.Path.{◌≡◌, refl, sym, ap, ◌∙◌}
 use mathlib.Core.List.{List, [], ◌∷◌}
 use Prim.Native.Nat.{ℕ, ◌≤◌, ◌<◌}
@@ -23,7 +23,7 @@ use Rattle.hop_cells.proofs.Read.{length_read}
 use Rattle.hop_counts.specs.Counts as counts
 use Rattle.hop_bridge.proofs.Top.{queued_read, waiting_for_read, waiting_from_read, reached_read}
 use Rattle.hop_judge.specs.Verdict.{Judges}
-use Rattle.hop_judge.proofs.Judging.{gone, call_done}
+use Rattle.hop_judge.proofs.Judging.{gone, call_refused, call_done}
 use Rattle.hop_judge.proofs.Known.{claim_known, fine_known, room_known, node_known}
 use Rattle.hop_ask.specs.Answers.{asked, directed}
 
@@ -45,6 +45,10 @@ pub route_asked : (s : List ℕ) {j : Result ℕ Refused} {n : ℕ} (u v : ℕ) 
     → directed (Ok r) s ≡ outcome (route u v) s []
 unfolding done
 route_asked s u v e g h = rw (h.distance, h.downstream, (gone _ _ e g).1) (call_done (route u v) s [] (nodes s) e g)
+
+-- And none where it is refused.
+pub route_refused : (s : List ℕ) {j : Result ℕ Refused} (u v : ℕ) → Judges (judge (refusals (route u v) s [])) (nodes s) j → {r : Refused} → j ≡ Err r → directed (Err r) s ≡ outcome (route u v) s []
+route_refused s u v e f = call_refused (route u v) s [] (nodes s) e f
 
 -- ---- status
 

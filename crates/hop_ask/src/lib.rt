@@ -10,6 +10,7 @@ use hop_judge::{judge_ends, judge_pair, judge_state, judge_status};
 use hop_rule::{Refused, Table};
 
 // The route from u to v: 0 and u for u itself, n and 255 where there is none. Refuses 2, 1, 2, 3, 4.
+#[tactic(auto, unfolding(hop_rule::specs::Calls::refusals), using(hop_judge::proofs::Known::room_known, hop_judge::proofs::Known::ends_below, hop_judge::proofs::Judging::handed_on, crate::proofs::Asked::route_refused))]
 pub fn route(s: &[u8], u: usize, v: usize) -> Result<Way, Refused>
     ensures { Directed u v s.now result }
 {
@@ -19,6 +20,7 @@ pub fn route(s: &[u8], u: usize, v: usize) -> Result<Way, Refused>
 }
 
 // The entries that wait from w to u; 0 where the link is down. Refuses 2, 1, 2, 3, 4, 5.
+#[tactic(auto, unfolding(hop_rule::specs::Calls::refusals), using(crate::proofs::Asked::length_asked))]
 pub fn queue_length(s: &[u8], w: usize, u: usize) -> Result<u32, Refused>
     ensures { Asked (call.queue_length w u) s.now result }
 {
@@ -27,6 +29,7 @@ pub fn queue_length(s: &[u8], w: usize, u: usize) -> Result<u32, Refused>
 }
 
 // The entries that wait in the whole state. Refuses 2, 1, 2, 3.
+#[tactic(auto, unfolding(hop_rule::specs::Calls::refusals), using(crate::proofs::Asked::total_asked))]
 pub fn total_queued(s: &[u8]) -> Result<u32, Refused>
     ensures { Asked call.total_queued s.now result }
 {

@@ -1,20 +1,24 @@
 -- Each line of specs/Determined: the law for the call's type of answer, at its outcome. Assumes nothing.
+use Rattle.std.specs.Prelude.{if◌then◌else◌}
 use mathlib.Core.Path.{◌≡◌, refl, sym, ap, ap₂, ◌∙◌}
 use mathlib.Core.Logic.{◌≢◌}
+use mathlib.Core.Bool.{Bool, true, false}
 use mathlib.Core.List.{List, []}
 use Prim.Native.Nat.{ℕ, ◌<◌}
 use native.Mathlib.Omega.{arith}
 use lib.ListN.{length}
 use Rattle.hop_rule.specs.Fixed.{Fixed, FixedAnswer}
-use Rattle.hop_rule.specs.Records.{place_after}
+use Rattle.hop_rule.specs.declared.Event.{Event}
+use Rattle.hop_rule.specs.Records.{place_after, known, event_of}
 use Rattle.hop_rule.specs.Calls as call
-use Rattle.hop_rule.specs.Calls.{Call, Outcome, done, outcome}
+use Rattle.hop_rule.specs.Calls.{Call, Outcome, refused, done, outcome}
 use Rattle.hop_rule.specs.Worth.{Valued, worth_done}
 use Rattle.hop_rule.specs.Why.{Explained, why_done}
 use Rattle.hop_laws.proofs.Calls.{done_answers}
 use Rattle.hop_laws.proofs.Refused.{number_some}
 use Rattle.hop_laws.proofs.Why.{why_is_done, why_number}
 use Rattle.hop_laws.proofs.Worth.{worth_is_done, worth_number}
+use Rattle.hop_records.specs.Writing.{wrote_event}
 use Rattle.hop_records.proofs.Answers.{wrote_fixed}
 use Rattle.hop_core.proofs.Answers.{told_fixed, told_fixed_answer, passed_fixed, ran_fixed}
 use Rattle.hop_ask.proofs.Answers.{asked_fixed, asked_fixed_answer, directed_fixed}
@@ -93,6 +97,7 @@ none_refused_with_0 = record {
   worth = λ s trial x list l r h z. number_some r (ap (λ (v : Valued). v.number) h ∙ z);
   why = λ s list l u v r h z. number_some r (ap (λ (e : Explained). e.number) h ∙ z);
   write_event = λ out left e r h z. number_some r (ap (λ (o : Outcome). o.number) h ∙ z);
+  write_kind = λ out left kind first second r h z. number_some r (ap (λ (o : Outcome). o.number) h ∙ z);
 }
 
 -- An outcome with the number 0 and no answer is not that of a call that has one when it is done.
@@ -101,10 +106,16 @@ has_answer c s out some z none e =
     let answers = ap (λ (p : Outcome). p.answers) e ∙ done_answers c s out (sym (ap (λ (p : Outcome). p.number) e) ∙ z) in
     omega (arith, ap length answers)
 
+-- An event in plain numbers is written, or its kind is refused with 10.
+kind_has_answer : (out left : List ℕ) (b : Bool) (e : Event) → refused 0 [] left ≢ (if b then outcome (call.write_event e) [] out else refused 10 [] out)
+unfolding done
+kind_has_answer out left true e = has_answer (call.write_event e) [] out (omega arith) refl refl
+kind_has_answer out left false e = λ h. omega (arith, ap (λ (o : Outcome). o.number) h)
+
 pub none_done_without_answer : NoneDoneWithoutAnswer
-unfolding done worth_done why_done
+unfolding done worth_done why_done wrote_event
 none_done_without_answer = record {
-  pass = λ s t. has_answer call.pass s [] (omega arith) refl refl;
+  pass = λ s t. has_answer _ s [] (omega arith) refl refl;
   run = λ s t k. has_answer (call.run k) s [] (omega arith) refl refl;
   route = λ s u v. has_answer (call.route u v) s [] (omega arith) refl refl;
   queue_length = λ s w u. has_answer (call.queue_length w u) s [] (omega arith) refl refl;
@@ -117,4 +128,5 @@ none_done_without_answer = record {
       let z = sym (why_number u v s list) ∙ sym (ap (λ (x : Explained). x.number) e) in
       omega (arith, ap (λ (x : Explained). length x.answers) (e ∙ why_is_done u v s list z));
   write_event = λ out left e. has_answer (call.write_event e) [] out (omega arith) refl refl;
+  write_kind = λ out left kind first second. kind_has_answer out left (known kind) (event_of kind first second);
 }

@@ -80,6 +80,7 @@ pub record NoneRefusedWith0 : Type 0 where
   pub worth : (s trial x : List ℕ) (list l : List ℤ) (r : Refused) → Worth s trial list (Err r) x l → (worth s trial list).number ≢ 0
   pub why : (s list l : List ℕ) (u v : ℕ) (r : Refused) → Why u v s list (Err r) l → (why u v s list).number ≢ 0
   pub write_event : (out left : List ℕ) (e : Event) (r : Refused) → Writes (outcome (call.write_event e) [] out) (Err r) left → (outcome (call.write_event e) [] out).number ≢ 0
+  pub write_kind : (out left : List ℕ) (kind first second : ℕ) (r : Refused) → Writes (wrote_event kind first second out) (Err r) left → (wrote_event kind first second out).number ≢ 0
 
 -- And no outcome of these is 'done' without its answer, as a refusal has none: what a route to itself, an empty queue, a pass at rest give cannot be taken for that of a call that was refused. (Reading is done without one at the plain end.)
 pub record NoneDoneWithoutAnswer : Type 0 where
@@ -92,3 +93,4 @@ pub record NoneDoneWithoutAnswer : Type 0 where
   pub worth : (s trial x : List ℕ) (list l : List ℤ) → record { number = 0; answers = []; trial = x; list = l } ≢ worth s trial list
   pub why : (s list l : List ℕ) (u v : ℕ) → record { number = 0; answers = []; list = l } ≢ why u v s list
   pub write_event : (out left : List ℕ) (e : Event) → refused 0 [] left ≢ outcome (call.write_event e) [] out
+  pub write_kind : (out left : List ℕ) (kind first second : ℕ) → refused 0 [] left ≢ wrote_event kind first second out

@@ -1,5 +1,5 @@
 -- Each event's call, where it goes on: the bytes that its step leaves are those of the call's outcome, by the bridge. Assumes nothing.
-use Rattle.std.specs.Prelude.{Result, Ok}
+use Rattle.std.specs.Prelude.{Result, Ok, Err}
 use mathlib.Core.Path.{◌≡◌, ap, ◌∙◌}
 use mathlib.Core.List.{List, []}
 use Prim.Native.Nat.{ℕ}
@@ -13,7 +13,7 @@ use Rattle.hop_runs.specs.declared.Ran.{Ran}
 use Rattle.hop_runs.specs.Runs as runs
 use Rattle.hop_bridge.proofs.Top.{make_stored, deliver_stored, link_up_stored, link_down_stored, notice_stored, pass_stored, queued_read, run_stored, ran_read}
 use Rattle.hop_judge.specs.Verdict.{Judges}
-use Rattle.hop_judge.proofs.Judging.{gone, call_done}
+use Rattle.hop_judge.proofs.Judging.{gone, call_refused, call_done}
 use Rattle.hop_judge.proofs.Known.{room_made, claim_known, fine_known, ends_known}
 use Rattle.hop_core.specs.Answers.{told, passed, ran}
 
@@ -53,6 +53,11 @@ module _ (s : List ℕ) (a b : ℕ) {j : Result ℕ Refused} {n : ℕ} (g : j �
       step_done (deliver a b) (λ m. step.deliver m a b s) e (ap (told (Ok tt)) (deliver_stored s fine a b la lb))
 
 -- ---- pass and run
+
+-- A pass that is refused answers the refusal's number, and nothing else.
+pub pass_refused : (s : List ℕ) {j : Result ℕ Refused} → Judges (judge (on_state s [])) (nodes s) j → {r : Refused} → j ≡ Err r → passed (Err r) s ≡ outcome pass s []
+unfolding refusals
+pass_refused s e f = call_refused pass s [] (nodes s) e f
 
 module _ (s : List ℕ) {j : Result ℕ Refused} (e : Judges (judge (on_state s [])) (nodes s) j) {n : ℕ} (g : j ≡ Ok n) where
   claim : n ≡ nodes s

@@ -63,6 +63,7 @@ pub fn deliver(s: &mut [u8], w: usize, u: usize) -> Result<(), Refused>
 }
 
 // One pass: the entries delivered. Refuses 2, 1, 2, 3.
+#[tactic(auto, using(hop_judge::proofs::Known::room_known, hop_judge::proofs::Judging::handed_on, crate::proofs::Events::pass_refused))]
 pub fn pass(s: &mut [u8]) -> Result<u32, Refused>
     ensures { Passed s.old result s.new }
 {

@@ -1,4 +1,4 @@
--- What is read of a script, at most its first 16,384 bytes: as many as the smaller of the two numbers, by which `input_of` goes, or the whole of a script that is no longer, as an edit that tests the length has it. Assumes nothing.
+-- What is read of a script: as many bytes as the smaller of its length and 16,384, by which `input_of` goes; and the whole of one that is no longer, by which no code goes: with it the edit one_byte_more_is_read is refused for its number and not for its form. Assumes nothing.
 use mathlib.Core.Path.{◌≡◌, sym}
 use mathlib.Core.List.{List}
 use Prim.Native.Nat.{ℕ}

@@ -2,7 +2,6 @@
 use Rattle.hop_rule.specs.Calls.{refusals}
 use Rattle.hop_judge.proofs.Judging.{handed_on, call_refused}
 use Rattle.hop_judge.proofs.Known.{room_known, cell_below}
-use Rattle.hop_ask.proofs.Asked.{length_asked}
 use Rattle.hop_ask.proofs.queue_length.Goals as goal
 
 pub invariant_of-get2 : goal.invariant_of-get2
@@ -14,8 +13,3 @@ get2-requires c = cell_below _ _ _ _ c.judge_ends.ensures c.in_ok-n.was
 pub returns-in_err-n : goal.returns-in_err-n
 unfolding refusals
 returns-in_err-n c = rw (handed_on _ c.from_residual.ensures.1) (call_refused _ _ _ _ c.judge_ends.ensures c.in_err-n.was)
-
-pub returns : goal.returns
-unfolding refusals
-returns c =
-    length_asked _ c.in_ok-n.was _ _ c.judge_ends.ensures c.get2.ensures.0

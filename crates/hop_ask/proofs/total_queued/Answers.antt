@@ -3,7 +3,6 @@ use mathlib.Core.List.{[]}
 use Rattle.hop_rule.specs.Calls.{refusals}
 use Rattle.hop_judge.proofs.Judging.{handed_on, call_refused}
 use Rattle.hop_judge.proofs.Known.{room_known}
-use Rattle.hop_ask.proofs.Asked.{total_asked}
 use Rattle.hop_ask.proofs.total_queued.Goals as goal
 
 pub invariant_of-queued : goal.invariant_of-queued
@@ -12,8 +11,3 @@ invariant_of-queued c = record { room = room_known _ [] c.judge_state.ensures c.
 pub returns-in_err-n : goal.returns-in_err-n
 unfolding refusals
 returns-in_err-n c = rw (handed_on _ c.from_residual.ensures.1) (call_refused _ _ _ _ c.judge_state.ensures c.in_err-n.was)
-
-pub returns : goal.returns
-unfolding refusals
-returns c =
-    total_asked _ c.in_ok-n.was c.judge_state.ensures c.queued.ensures.0
